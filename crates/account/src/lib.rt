@@ -1,0 +1,3 @@
+//! The account layer: its fault, and the ranges of what it is given.
+pub mod fault;
+pub mod figure;

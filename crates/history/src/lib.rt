@@ -1,0 +1,2 @@
+//! The meaning of a book: what its calls refuse, what they change, and what whole histories of calls keep.
+pub mod run;

@@ -1,0 +1,2 @@
+pub mod EachCurrency
+pub mod Readings

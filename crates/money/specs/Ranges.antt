@@ -1,0 +1,16 @@
+-- The ranges of figures.
+use mathlib.Core.Bool.{Bool, _&&_}
+use lib.IntN.{ℤ, pos}
+use lib.Signed.{leZ}
+use Rattle.money.specs.declared.range.Range.{Range}
+
+-- the most hundredths that any amount holds
+abbrev pub bound : ℤ
+bound = pos 100000000000
+
+abbrev pub within : Range → ℤ → Bool
+within range x = leZ (range .low) x && leZ x (range .high)
+
+-- a rate, in ten-thousandths of the common money
+abbrev pub rateRange : Range
+rateRange = record { low = pos 1000; high = pos 999999 }

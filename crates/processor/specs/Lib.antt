@@ -1,0 +1,5 @@
+pub mod Sheets
+pub mod Prints
+pub mod Performances
+pub mod Processors
+pub mod Checks

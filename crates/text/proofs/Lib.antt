@@ -1,0 +1,4 @@
+pub mod CutLaws
+pub mod RowLaws
+pub mod DigitLaws
+pub mod Spellings
