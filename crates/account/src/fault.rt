@@ -21,6 +21,10 @@ impl AccountFault {
     pub fn refusal(self) -> Refusal
         ensures { λ r. ⌜ toldBy r ≡ told self ⌝ }
     {
-        Refusal { cause: Cause::Account(self.cause), code: self.code, currency: self.currency }
+        Refusal {
+            cause: Cause::Account(self.cause),
+            code: self.code,
+            currency: self.currency,
+        }
     }
 }

@@ -12,14 +12,22 @@ use money::status::Status;
 fn out_of_range(currency: Currency) -> AccountFault
     ensures { λ r. ⌜ r ≡ outOfRange None (Some currency) ⌝ }
 {
-    AccountFault { cause: AccountCause::OutOfRange, code: None, currency: Some(currency) }
+    AccountFault {
+        cause: AccountCause::OutOfRange,
+        code: None,
+        currency: Some(currency),
+    }
 }
 
 /// Refuses a rate that is out of range.
 pub fn check_rate(currency: Currency, rate: i64) -> Result<(), AccountFault>
     ensures { λ r. ⌜ r ≡ rateAnswer currency rate ⌝ }
 {
-    if RATE.holds(rate) { Ok(()) } else { Err(out_of_range(currency)) }
+    if RATE.holds(rate) {
+        Ok(())
+    } else {
+        Err(out_of_range(currency))
+    }
 }
 
 /// The status that a holiday flag gives; a flag that is neither 0 nor 1 is refused.

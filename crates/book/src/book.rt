@@ -73,11 +73,19 @@ impl<V> Book<V> {
     {
         let currency = Currency::read(currency);
         if self.running.is_some() {
-            return Err(BookFault::Own { cause: BookCause::RunOpen, code: None, currency });
+            return Err(BookFault::Own {
+                cause: BookCause::RunOpen,
+                code: None,
+                currency,
+            });
         }
         match currency {
             Some(currency) => Ok(currency),
-            None => Err(BookFault::Own { cause: BookCause::CurrencyUnknown, code: None, currency: None }),
+            None => Err(BookFault::Own {
+                cause: BookCause::CurrencyUnknown,
+                code: None,
+                currency: None,
+            }),
         }
     }
 }

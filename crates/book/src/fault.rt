@@ -13,7 +13,11 @@ use money::refusal::Refusal;
 /// A fault of a call of the book: its own, or one found in the account layer, with all its parts.
 #[derive(Clone, Copy)]
 pub enum BookFault {
-    Own { cause: BookCause, code: Option<Code>, currency: Option<Currency> },
+    Own {
+        cause: BookCause,
+        code: Option<Code>,
+        currency: Option<Currency>,
+    },
     Account(AccountFault),
 }
 
@@ -23,7 +27,15 @@ impl BookFault {
         ensures { λ r. ⌜ toldBy r ≡ told self ⌝ }
     {
         match self {
-            BookFault::Own { cause, code, currency } => Refusal { cause: Cause::Book(cause), code, currency },
+            BookFault::Own {
+                cause,
+                code,
+                currency,
+            } => Refusal {
+                cause: Cause::Book(cause),
+                code,
+                currency,
+            },
             BookFault::Account(fault) => fault.refusal(),
         }
     }

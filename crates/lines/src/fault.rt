@@ -23,14 +23,20 @@ pub struct SheetFault {
 
 impl SheetFault {
     /// The fault of a line that has the form of none.
-    pub const FORM: SheetFault = SheetFault { cause: SheetCause::Form };
+    pub const FORM: SheetFault = SheetFault {
+        cause: SheetCause::Form,
+    };
 
     /// The refusal as it is printed.
     pub fn refusal(self) -> Refusal
         ensures { λ r. ⌜ toldBy r ≡ told self ⌝ }
     {
         match self.cause {
-            SheetCause::Form => Refusal { cause: Cause::LineForm, code: None, currency: None },
+            SheetCause::Form => Refusal {
+                cause: Cause::LineForm,
+                code: None,
+                currency: None,
+            },
             SheetCause::Book(fault) => fault.refusal(),
         }
     }
@@ -40,6 +46,8 @@ pub impl From<BookFault> for SheetFault as SheetFromBook {
     ghost converts = { λ f r. r ≡ ofBook f };
 
     fn from(fault: BookFault) -> SheetFault {
-        SheetFault { cause: SheetCause::Book(fault) }
+        SheetFault {
+            cause: SheetCause::Book(fault),
+        }
     }
 }

@@ -54,7 +54,11 @@ fn known(currency: &[u8]) -> Result<Currency, BookFault>
 {
     match Currency::read(currency) {
         Some(currency) => Ok(currency),
-        None => Err(BookFault::Own { cause: BookCause::CurrencyUnknown, code: None, currency: None }),
+        None => Err(BookFault::Own {
+            cause: BookCause::CurrencyUnknown,
+            code: None,
+            currency: None,
+        }),
     }
 }
 

@@ -1,10 +1,9 @@
 -- What a computed test over book order says of each currency.
 use mathlib.Core.Path.{_≡_, refl, subst}
 use mathlib.Core.Bool.{Bool, true, _&&_}
-use mathlib.Core.List.{List, [], _∷_, _++_}
+use mathlib.Core.List.{List, [], _∷_}
 use Prim.Native.Nat.{ℕ, zero, suc}
 use native.Mathlib.Omega.{arith}
-use lib.ListN.{getD}
 use lib.Utf8.{encode}
 use Rattle.std.proofs.shelf.Equals.{sameBytes-decides}
 use Rattle.std.proofs.shelf.Tests.{and-parts}
@@ -14,7 +13,7 @@ use Rattle.std.specs.shelf.Maps.{nth}
 use Rattle.std.specs.shelf.Text.{sameBytes}
 use Rattle.money.specs.declared.currency.Currency.{Currency}
 use Rattle.money.specs.declared.currency.Currency.the-variants.{Gbp, Dkk, Eur, Nok, Sek, Usd}
-use Rattle.money.specs.Currencies.{currencies, place, letters}
+use Rattle.money.specs.Currencies.{currencies, place, letters, spelt}
 
 abbrev pub every : {X : Type 0} → (X → Bool) → List X → Bool
 every f [] = true
@@ -39,9 +38,6 @@ pub each : (f : Currency → Bool) → every f currencies ≡ true → (c : Curr
 each f all c = every-at f currencies (place c) c all (placed c)
 
 -- the letters are plain characters
-abbrev spelt : Currency → List ℕ
-spelt c = encode (getD (letters c) 0 0) ++ (encode (getD (letters c) 1 0) ++ encode (getD (letters c) 2 0))
-
-pub letters-spelt : (c : Currency) → spelt c ≡ letters c
+pub letters-spelt : (c : Currency) → spelt (letters c) ≡ letters c
 unfolding encode
-letters-spelt c = sameBytes-decides (spelt c) (letters c) .0 (each (λ c. sameBytes (spelt c) (letters c)) refl c)
+letters-spelt c = sameBytes-decides (spelt (letters c)) (letters c) .0 (each (λ c. sameBytes (spelt (letters c)) (letters c)) refl c)

@@ -25,9 +25,12 @@ bytesOf c = c .0 ∷ c .1 ∷ c .2 ∷ c .3 ∷ c .4 ∷ c .5 ∷ c .6 ∷ c .7 
 abbrev pub eight : List ℕ → Code
 eight t = record { 0 = getD t 0 0; 1 = getD t 1 0; 2 = getD t 2 0; 3 = getD t 3 0; 4 = getD t 4 0; 5 = getD t 5 0; 6 = getD t 6 0; 7 = getD t 7 0 }
 
+abbrev pub ofEight : List ℕ → Option Code
+ofEight t = cond (eqb (length t) 8) (cond (formed (bytesOf (eight t))) (Some (eight t)) None) None
+
 -- the code that a text is, if it is well formed
 unfoldable pub codeOf : List ℕ → Option Code
-codeOf t = cond (eqb (length t) 8) (cond (formed (bytesOf (eight t))) (Some (eight t)) None) None
+codeOf t = ofEight t
 
 -- what is printed of a code: its eight characters
 abbrev pub shownCode : Code → List ℕ

@@ -1,8 +1,10 @@
 -- The currencies: book order, letters, and how they are read.
 use mathlib.Core.Bool.{Bool}
-use mathlib.Core.List.{List, [], _∷_}
+use mathlib.Core.List.{List, [], _∷_, _++_}
 use Prim.Native.Nat.{ℕ}
 use lib.Chars.{codes}
+use lib.ListN.{getD}
+use lib.Utf8.{encode}
 use Rattle.std.specs.declared.option.Option.{Option}
 use Rattle.std.specs.shelf.Text.{sameBytes}
 use Rattle.money.specs.declared.currency.Currency.{Currency}
@@ -30,6 +32,10 @@ letters Eur = codes "EUR"
 letters Nok = codes "NOK"
 letters Sek = codes "SEK"
 letters Usd = codes "USD"
+
+-- what three characters write
+abbrev pub spelt : List ℕ → List ℕ
+spelt cs = encode (getD cs 0 0) ++ (encode (getD cs 1 0) ++ encode (getD cs 2 0))
 
 abbrev pub isWritten : List ℕ → Currency → Bool
 isWritten text c = sameBytes text (letters c)

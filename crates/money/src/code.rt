@@ -1,6 +1,6 @@
 //! Account codes.
 ghost use mathlib.Core.Path.{_≡_};
-ghost use Rattle.money.specs.Codes.{isCodeByte, formed, bytesOf, shownCode, codeOf};
+ghost use Rattle.money.specs.Codes.{isCodeByte, formed, bytesOf, shownCode, ofEight, codeOf};
 ghost use Rattle.std.specs.declared.option.Option.the-variants.{Some};
 use std::fmt;
 
@@ -20,10 +20,25 @@ impl Code {
     pub fn read(text: &[u8]) -> Option<Code>
         ensures { λ r. ⌜ r ≡ codeOf (now (text .entry)) ⌝ }
     {
+        Code::of_eight(text)
+    }
+
+    fn of_eight(text: &[u8]) -> Option<Code>
+        ensures { λ r. ⌜ r ≡ ofEight (now (text .entry)) ⌝ }
+    {
         if text.len() != 8 {
             return None;
         }
-        let code = Code(text[0], text[1], text[2], text[3], text[4], text[5], text[6], text[7]);
+        let code = Code(
+            text[0],
+            text[1],
+            text[2],
+            text[3],
+            text[4],
+            text[5],
+            text[6],
+            text[7],
+        );
         if code.is_formed() { Some(code) } else { None }
     }
 

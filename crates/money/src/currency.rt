@@ -1,6 +1,6 @@
 //! The currencies of the book.
 ghost use mathlib.Core.Path.{_≡_};
-ghost use Rattle.money.specs.Currencies.{place, letters, isWritten, currencyOf};
+ghost use Rattle.money.specs.Currencies.{place, letters, spelt, isWritten, currencyOf};
 ghost use Rattle.std.specs.declared.option.Option.the-variants.{Some};
 use std::fmt;
 
@@ -62,6 +62,13 @@ impl Currency {
         None
     }
 
+    fn characters(self) -> [char; 3]
+        ensures { λ r. ⌜ spelt r ≡ letters self ⌝ }
+    {
+        let [a, b, c] = self.letters();
+        [char::from(a), char::from(b), char::from(c)]
+    }
+
     fn is_written(self, text: &[u8]) -> bool
         ensures { λ r. ⌜ r ≡ isWritten (now (text .entry)) self ⌝ }
     {
@@ -73,10 +80,7 @@ pub impl fmt::Display for Currency as CurrencyDisplay {
     ghost shown = { λ c. Some (letters c) };
 
     fn fmt<W: fmt::Write>(&self, f: &mut fmt::Formatter<W>) -> fmt::Result {
-        let [a, b, c] = self.letters();
-        let a = char::from(a);
-        let b = char::from(b);
-        let c = char::from(c);
+        let [a, b, c] = self.characters();
         write!(f, "{a}{b}{c}")
     }
 }

@@ -13,7 +13,10 @@ pub struct Range {
 }
 
 /// A rate: the price of one currency unit in ten-thousandths of the common money.
-pub const RATE: Range = Range { low: 1_000, high: 999_999 };
+pub const RATE: Range = Range {
+    low: 1_000,
+    high: 999_999,
+};
 
 impl Range {
     /// Whether the figure lies in the range.

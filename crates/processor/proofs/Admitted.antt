@@ -21,7 +21,7 @@ use Rattle.history.specs.States.{State, isRunning}
 use Rattle.lines.specs.declared.fault.SheetFault.{SheetFault}
 use Rattle.lines.specs.declared.record.Record.{Record}
 use Rattle.lines.specs.declared.record.Record.the-variants.{Rate, Holiday}
-use Rattle.lines.specs.Admissions.{admission}
+use Rattle.lines.specs.Admissions.{admission, Admits}
 use Rattle.lines.specs.Faults.{told}
 use Rattle.lines.specs.Lines.{Line, rate, holiday, parsed}
 use Rattle.lines.specs.Records.{recordOf, barredFor}
@@ -62,8 +62,11 @@ admitted s line (Some l) is e =
     let r = has-record l (not-barred s l e) in
     (r .0, rw is (r .1))
 
-pub performed : (s : State) (line : List ℕ) (r : Result Unit SheetFault) → refusalOf told r ≡ answer s line → Performed line r
-performed s line (Ok u) e =
-    let r = admitted s line (parsed line) refl (sym e) in
+pub admits : (s : State) (line : List ℕ) → answer s line ≡ None → (x : Record) × Admits line x
+admits s line e =
+    let r = admitted s line (parsed line) refl e in
     (r .0, admission-says line (r .0) (r .1))
+
+pub performed : (s : State) (line : List ℕ) (r : Result Unit SheetFault) → refusalOf told r ≡ answer s line → Performed line r
+performed s line (Ok u) e = admits s line (sym e)
 performed s line (Err f) e = tt

@@ -7,8 +7,10 @@ ghost use Rattle.history.specs.States.{newState};
 ghost use Rattle.lines.specs.Entries.{meant};
 ghost use Rattle.lines.specs.Faults.{told};
 ghost use Rattle.money.specs.Refusals.{refusalOf};
+ghost use Rattle.processor.specs.Laws.{SheetLaw};
 ghost use Rattle.processor.specs.Performances.{callOf, answer, after, printed, Performed, outputs, transcribed};
 ghost use Rattle.processor.specs.Processors.{stateOf};
+ghost use Rattle.processor.specs.Sheets.{sheetOf};
 ghost use Rattle.std.specs.Of.String.{string-bytes};
 ghost use Rattle.std.specs.Vec.{made};
 ghost use Rattle.text.specs.Rows.{rows};
@@ -38,7 +40,9 @@ impl<V> Processor<V> {
     pub fn new(valuation: V) -> Self
         ensures { λ r. ⌜ stateOf r ≡ newState 1 ⌝ }
     {
-        Processor { book: Book::new(BOOK, valuation) }
+        Processor {
+            book: Book::new(BOOK, valuation),
+        }
     }
 
     /// Performs one line, which holds its line feed. A refused line leaves the book as it was.
@@ -95,12 +99,19 @@ impl<V> Processor<V> {
     }
 }
 
-/// What is printed of an input: its sheet is performed on a new book under the valuation.
-pub fn transcript<V: Drop>(heap: Global, valuation: V, input: &[u8]) -> Result<String, AllocError>
+fn transcribe<V: Drop>(heap: Global, valuation: V, input: &[u8]) -> Result<String, AllocError>
     ensures { λ r. ⌜ made r (λ t. string-bytes t ≡ transcribed (now (input .entry))) ⌝ }
 {
     let mut out = String::new(heap);
     let mut processor = Processor::new(valuation);
     processor.read(sheet_of(input), &mut out)?;
     Ok(out)
+}
+
+/// What is printed of an input: its sheet is performed on a new book under the valuation.
+pub fn transcript<V: Drop>(heap: Global, valuation: V, input: &[u8]) -> Result<String, AllocError>
+    ensures law { λ r. ⌜ SheetLaw (newState 1) (rows (sheetOf (now (input .entry)))) ⌝ }
+    ensures text { λ r. ⌜ made r (λ t. string-bytes t ≡ transcribed (now (input .entry))) ⌝ }
+{
+    transcribe(heap, valuation, input)
 }

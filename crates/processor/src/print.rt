@@ -19,7 +19,11 @@ pub const LIMIT: usize = 65_536;
 pub fn sheet_of(input: &[u8]) -> &[u8]
     ensures { λ r. ⌜ now r ≡ sheetOf (now (input .entry)) ⌝ }
 {
-    if input.len() <= LIMIT { input } else { &input[0..LIMIT] }
+    if input.len() <= LIMIT {
+        input
+    } else {
+        &input[0..LIMIT]
+    }
 }
 
 /// Writes the line of a refusal: `X`, the number of the line, and what the refusal tells.

@@ -14,6 +14,11 @@ use Rattle.text.specs.Cuts.{onto, cutAt, Free}
 some-same : {X : Type 0} {x y : X} → Some x ≡ Some y → x ≡ y
 some-same e = cc
 
+pub drop-one : {X : Type 0} (i : ℕ) (xs : List X) → drop 1 (drop i xs) ≡ drop (suc i) xs
+drop-one zero xs = refl
+drop-one (suc i) [] = refl
+drop-one (suc i) (x ∷ xs) = drop-one i xs
+
 -- the first mark is at i
 pub cut-found : (m : ℕ) (xs : List ℕ) (i : ℕ) → i < length xs → ((k : ℕ) → k < i → getD xs k 0 ≡ m → ⊥) → getD xs i 0 ≡ m → cutAt m xs ≡ Some (take i xs, drop (suc i) xs)
 cut-found m [] i l none e = absurd (omega arith)

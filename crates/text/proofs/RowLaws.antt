@@ -43,8 +43,7 @@ first-some xs q e =
     let split : xs ≡ (f ++ (10 ∷ [])) ++ r = s .0 ∙ sym (append-assoc f (10 ∷ []) r) in
     let front : take (length f + 1) xs ≡ f ++ (10 ∷ []) = ap (take (length f + 1)) split ∙ take-at (f ++ (10 ∷ [])) r (length f + 1) long in
     let back : drop (length f + 1) xs ≡ r = ap (drop (length f + 1)) split ∙ drop-at (f ++ (10 ∷ [])) r (length f + 1) long in
-    let whole = ap length split ∙ length-append (f ++ (10 ∷ [])) r in
-    (
+    let whole = ap length split ∙ length-append (f ++ (10 ∷ [])) r in (
       omega (arith, whole, long),
       (ap rows (s .0) ∙ rows-at f r (s .1) ∙ (λ i. sym front i ∷ rows (sym back i)), omega (arith, whole, long, ap length back)),
     )

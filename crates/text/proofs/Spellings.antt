@@ -88,9 +88,11 @@ number-says t z e = says (eqb (getD t 0 0) 45) refl e
     minus : (t : List ℕ) → getD t 0 0 ≡ 45 → t ≡ 45 ∷ drop 1 t
     minus [] h = absurd (omega arith)
     minus (c ∷ cs) h = ap (λ x. x ∷ cs) h
+
     lower : (n : ℕ) → getD t 0 0 ≡ 45 → Spelt (drop 1 t) n → (n ≡ 0 → ⊥) → negℤ (pos n) ≡ z → Short z × (signed z ≡ t)
     lower zero m s nz is = absurd (nz refl)
     lower (suc n) m s nz is = subst (λ y. Short y × (signed y ≡ t)) is (s .small, ap (λ l. 45 ∷ l) (s .text) ∙ sym (minus t m))
+
     says : (b : Bool) → eqb (getD t 0 0) 45 ≡ b → cond b (before (natural (drop 1 t)) belowZero) (before (natural t) (λ n. Some (pos n))) ≡ Some z → Short z × (signed z ≡ t)
     says true m e =
         let p = before-some (natural (drop 1 t)) belowZero z e in

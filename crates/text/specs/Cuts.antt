@@ -4,6 +4,7 @@ use mathlib.Core.Bool.{false, cond}
 use mathlib.Core.List.{List, [], _∷_}
 use Prim.Native.Nat.{ℕ}
 use lib.Dec.{eqb}
+use lib.ListN.{take, drop}
 use denote.Ref.{RefT}
 use Rattle.std.specs.declared.option.Option.{Option}
 use Rattle.std.specs.declared.option.Option.the-variants.{Some, None}
@@ -17,6 +18,11 @@ onto c (Some p) = Some (c ∷ p .0, p .1)
 abbrev pub cutAt : ℕ → List ℕ → Option (List ℕ × List ℕ)
 cutAt m [] = None
 cutAt m (c ∷ cs) = cond (eqb c m) (Some ([], cs)) (onto c (cutAt m cs))
+
+-- the two parts of a text that a mark at a place makes
+abbrev pub cutBy : List ℕ → Option ℕ → Option (List ℕ × List ℕ)
+cutBy text None = None
+cutBy text (Some i) = Some (take i text, drop 1 (drop i text))
 
 -- no byte of it is the mark
 abbrev pub Free : ℕ → List ℕ → Type 0

@@ -19,5 +19,5 @@ rows (c ∷ cs) = cond (eqb c 10) ((c ∷ []) ∷ rows cs) (ontoFirst c (rows cs
 
 -- the first line of a sheet and what follows it; an empty sheet has none
 abbrev pub First : List ℕ → Option (List ℕ × List ℕ) → Type 0
-First sheet None = sheet ≡ []
+First sheet None = length sheet ≡ 0
 First sheet (Some p) = (rows sheet ≡ p .0 ∷ rows (p .1)) × (length (p .1) < length sheet)

@@ -35,7 +35,11 @@ fn natural_number(text: &[u8]) -> Option<u64>
         [] => None,
         [_] => counted_digits(text),
         [b'0', ..] => None,
-        _ => if text.len() <= DIGITS { counted_digits(text) } else { None },
+        _ => if text.len() <= DIGITS {
+            counted_digits(text)
+        } else {
+            None
+        },
     }
 }
 

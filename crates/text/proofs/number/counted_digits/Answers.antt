@@ -28,8 +28,7 @@ loop-b-again c =
     let i = c .loop-b .b-index in
     let digit = c .if-not-is-ascii-digit .ensures tt in
     let lt : i < length xs = omega arith in
-    let worth = digitValue-digit (getD xs i 0) (omega (arith, digit .cases), omega (arith, digit .cases)) in
-    (
+    let worth = digitValue-digit (getD xs i 0) (omega (arith, digit .cases), omega (arith, digit .cases)) in (
       omega (arith, c .loop-b .inv .0, value-more 10 xs i lt, worth, c .from .ensures),
       digits-more 10 xs i lt (c .loop-b .inv .1) (digit .bound),
     )
