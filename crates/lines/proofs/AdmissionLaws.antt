@@ -20,10 +20,9 @@ use Rattle.money.specs.declared.currency.Currency.{Currency}
 use Rattle.money.specs.declared.status.Status.{Status}
 use Rattle.money.specs.declared.status.Status.the-variants.{Open, Shut}
 use Rattle.money.specs.Currencies.{letters, currencyOf}
-use Rattle.money.specs.Options.{before}
+use Rattle.money.specs.Options.{before, every}
 use Rattle.money.specs.Ranges.{within, rateRange}
 use Rattle.money.specs.Statuses.{flagOf, statusOf}
-use Rattle.money.proofs.EachCurrency.{every}
 use Rattle.money.proofs.Readings.{currency-says, currency-reads, letters-capital, letters-three, status-reads, status-says, rate-natural}
 use Rattle.text.specs.Cuts.{Free}
 use Rattle.text.specs.Numbers.{Short}

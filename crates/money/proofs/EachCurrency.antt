@@ -13,13 +13,10 @@ use Rattle.std.specs.shelf.Maps.{nth}
 use Rattle.std.specs.shelf.Text.{sameBytes}
 use Rattle.money.specs.declared.currency.Currency.{Currency}
 use Rattle.money.specs.declared.currency.Currency.the-variants.{Gbp, Dkk, Eur, Nok, Sek, Usd}
+use Rattle.money.specs.Options.{every}
 use Rattle.money.specs.Currencies.{currencies, place, letters, spelt}
 
-abbrev pub every : {X : Type 0} → (X → Bool) → List X → Bool
-every f [] = true
-every f (x ∷ xs) = f x && every f xs
-
-every-at : {X : Type 0} (f : X → Bool) (xs : List X) (i : ℕ) (x : X) → every f xs ≡ true → nth xs i ≡ Some x → f x ≡ true
+pub every-at : {X : Type 0} (f : X → Bool) (xs : List X) (i : ℕ) (x : X) → every f xs ≡ true → nth xs i ≡ Some x → f x ≡ true
 every-at f [] i x all is = let z : _≡_ {A = ℕ} 0 1 = cc in absurd (omega arith)
 every-at f (y ∷ ys) zero x all is = let same : y ≡ x = cc in subst (λ z. f z ≡ true) same (and-parts (f y) (every f ys) all .0)
 every-at f (y ∷ ys) (suc i) x all is = every-at f ys i x (and-parts (f y) (every f ys) all .1) is

@@ -17,10 +17,10 @@ use Rattle.money.specs.declared.range.Range.{Range}
 use Rattle.money.specs.declared.status.Status.{Status}
 use Rattle.money.specs.declared.status.Status.the-variants.{Open, Shut}
 use Rattle.money.specs.Currencies.{currencies, place, letters, isWritten, currencyOf}
-use Rattle.money.specs.Options.{firstOf}
+use Rattle.money.specs.Options.{firstOf, every}
 use Rattle.money.specs.Ranges.{within, rateRange}
 use Rattle.money.specs.Statuses.{flagOf, statusOf}
-use Rattle.money.proofs.EachCurrency.{every, each, placed}
+use Rattle.money.proofs.EachCurrency.{each, placed}
 
 -- CURRENCIES
 

@@ -3,6 +3,7 @@ use mathlib.Core.Bool.{Bool}
 use mathlib.Core.List.{List, [], _∷_, _++_}
 use Prim.Native.Nat.{ℕ}
 use lib.Chars.{codes}
+use lib.Dec.{eqb}
 use lib.ListN.{getD}
 use lib.Utf8.{encode}
 use Rattle.std.specs.declared.option.Option.{Option}
@@ -23,6 +24,9 @@ place Eur = 2
 place Nok = 3
 place Sek = 4
 place Usd = 5
+
+abbrev pub isSame : Currency → Currency → Bool
+isSame c d = eqb (place c) (place d)
 
 -- the three letters that a currency is written with
 abbrev pub letters : Currency → List ℕ

@@ -1,5 +1,5 @@
 -- What may be absent.
-use mathlib.Core.Bool.{Bool, cond}
+use mathlib.Core.Bool.{Bool, true, cond, _&&_}
 use mathlib.Core.List.{List, [], _∷_}
 use Rattle.std.specs.declared.option.Option.{Option}
 use Rattle.std.specs.declared.option.Option.the-variants.{Some, None}
@@ -13,3 +13,8 @@ before (Some x) f = f x
 abbrev pub firstOf : {X : Type 0} → (X → Bool) → List X → Option X
 firstOf f [] = None
 firstOf f (x ∷ xs) = cond (f x) (Some x) (firstOf f xs)
+
+-- whether all of a list pass a test
+abbrev pub every : {X : Type 0} → (X → Bool) → List X → Bool
+every f [] = true
+every f (x ∷ xs) = f x && every f xs

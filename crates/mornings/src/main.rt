@@ -3,10 +3,11 @@ use processor::perform::transcript;
 use std::env;
 use std::error::AnyError;
 use std::fs;
+use valuation::flat_charge::FlatCharge;
 
 fn show(rt: &LibcRuntime, name: &str) -> Result<(), AnyError> {
     let input = fs::read(rt, name)?;
-    let text = transcript(rt.alloc(), (), input.as_slice())?;
+    let text = transcript(rt.alloc(), FlatCharge, input.as_slice())?;
     println!(rt, "== {name}")?;
     rt.print(text)?;
     Ok(())
@@ -37,7 +38,7 @@ mod tests {
             input.extend_from_slice(b"H\tEUR\t0\n")?;
         }
         input.extend_from_slice(last)?;
-        transcript(heap, (), input.as_slice())
+        transcript(heap, FlatCharge, input.as_slice())
     }
 
     #[test]
