@@ -1,2 +1,5 @@
 pub mod Faults
-pub mod Figures
+pub mod Checks
+pub mod Terms
+pub mod Priorities
+pub mod Accounts

@@ -1,3 +1,6 @@
-//! The account layer: its fault, and the ranges of what it is given.
+//! One margin account: its terms and figures, their ranges, and the account layer's fault.
+pub mod account;
+pub mod check;
 pub mod fault;
-pub mod figure;
+pub mod priority;
+pub mod terms;

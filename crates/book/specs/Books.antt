@@ -1,5 +1,6 @@
--- What a book in memory means.
+-- What a book in memory means. It holds no accounts yet.
 use mathlib.Core.Bool.{Bool, true, false}
+use mathlib.Core.List.{[]}
 use Rattle.std.specs.declared.option.Option.{Option}
 use Rattle.std.specs.declared.option.Option.the-variants.{Some, None}
 use Rattle.std.specs.declared.result.Result.{Result}
@@ -13,7 +14,16 @@ use Rattle.book.specs.declared.fault.BookFault.{BookFault}
 use Rattle.book.specs.declared.fault.BookFault.the-variants.{Own}
 
 abbrev pub meaning : {V : Type 0} → Book V → State
-meaning b = record { number = b .number; rates = b .rates; statuses = b .statuses; running = b .running; runs = b .runs }
+meaning b = record {
+  number = b .number;
+  rates = b .rates;
+  statuses = b .statuses;
+  accounts = [];
+  optimizations = [];
+  running = b .running;
+  kept = [];
+  runs = b .runs;
+}
 
 -- the currency of a call, or why there is none: a run is open, or it is not one of the book's
 abbrev pub currencyFor : Bool → Option Currency → Result Currency BookFault

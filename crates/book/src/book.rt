@@ -2,14 +2,15 @@
 ghost use mathlib.Core.Path.{_≡_};
 ghost use Rattle.book.specs.Books.{meaning, callCurrency};
 ghost use Rattle.book.specs.Faults.{told};
-ghost use Rattle.history.specs.Calls.{refused, step, setRate, setHoliday};
+ghost use Rattle.history.specs.Bookings.{rateRefusal, rateSet, holidayRefusal, holidaySet};
 ghost use Rattle.history.specs.States.{newState};
+ghost use Rattle.history.specs.Steps.{unless};
 ghost use Rattle.money.specs.Currencies.{currencyOf};
 ghost use Rattle.money.specs.Refusals.{refusalOf};
 use crate::fault::BookFault;
 use crate::fault::BookFromAccount;
-use account::figure::check_rate;
-use account::figure::read_status;
+use account::check::check_rate;
+use account::check::read_status;
 use history::run::OpenRun;
 use money::cause::BookCause;
 use money::currency::COUNT;
@@ -45,8 +46,8 @@ impl<V> Book<V> {
 
     /// Gives a currency its rate, in place of the old one.
     pub fn set_rate(&mut self, currency: &[u8], rate: i64) -> Result<(), BookFault>
-        ensures answer { λ r. ⌜ refusalOf told r ≡ refused (meaning (now (self .entry))) (setRate (now (currency .entry)) rate) ⌝ }
-        ensures after { λ r. ⌜ meaning (now (self .exit)) ≡ step (meaning (now (self .entry))) (setRate (now (currency .entry)) rate) ⌝ }
+        ensures answer { λ r. ⌜ refusalOf told r ≡ rateRefusal (meaning (now (self .entry))) (now (currency .entry)) rate ⌝ }
+        ensures after { λ r. ⌜ meaning (now (self .exit)) ≡ unless (rateRefusal (meaning (now (self .entry))) (now (currency .entry)) rate) (meaning (now (self .entry))) (rateSet (meaning (now (self .entry))) (now (currency .entry)) rate) ⌝ }
         ensures valued { λ r. ⌜ now (self .exit) .valuation ≡ now (self .entry) .valuation ⌝ }
     {
         let currency = self.open_for(currency)?;
@@ -57,8 +58,8 @@ impl<V> Book<V> {
 
     /// Shuts a currency for its holiday (flag 1), or opens it again (flag 0).
     pub fn set_holiday(&mut self, currency: &[u8], flag: i64) -> Result<(), BookFault>
-        ensures answer { λ r. ⌜ refusalOf told r ≡ refused (meaning (now (self .entry))) (setHoliday (now (currency .entry)) flag) ⌝ }
-        ensures after { λ r. ⌜ meaning (now (self .exit)) ≡ step (meaning (now (self .entry))) (setHoliday (now (currency .entry)) flag) ⌝ }
+        ensures answer { λ r. ⌜ refusalOf told r ≡ holidayRefusal (meaning (now (self .entry))) (now (currency .entry)) flag ⌝ }
+        ensures after { λ r. ⌜ meaning (now (self .exit)) ≡ unless (holidayRefusal (meaning (now (self .entry))) (now (currency .entry)) flag) (meaning (now (self .entry))) (holidaySet (meaning (now (self .entry))) (now (currency .entry)) flag) ⌝ }
         ensures valued { λ r. ⌜ now (self .exit) .valuation ≡ now (self .entry) .valuation ⌝ }
     {
         let currency = self.open_for(currency)?;

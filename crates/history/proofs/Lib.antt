@@ -1,0 +1,15 @@
+pub mod Tests
+pub mod Lists
+pub mod Found
+pub mod Ranges
+pub mod Invariant
+pub mod SoundAccounts
+pub mod Places
+pub mod Named
+pub mod Keeping
+pub mod Concluded
+pub mod Concluding
+pub mod Conservation
+pub mod Standings
+pub mod Callbacks
+pub mod Theorem

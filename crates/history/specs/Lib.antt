@@ -1,2 +1,9 @@
 pub mod States
 pub mod Calls
+pub mod Causes
+pub mod Bookings
+pub mod Runs
+pub mod Steps
+pub mod Histories
+pub mod Laws
+pub mod Mornings

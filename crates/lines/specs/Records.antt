@@ -17,7 +17,8 @@ use Rattle.money.specs.Refusals.{Told}
 use Rattle.money.specs.Statuses.{flagOf, statusOf}
 use Rattle.book.specs.declared.fault.BookFault.{BookFault}
 use Rattle.book.specs.declared.fault.BookFault.the-variants.{Own}
-use Rattle.history.specs.Calls.{rateFault, holidayFault}
+use Rattle.history.specs.Bookings.{rateFaults, holidayFaults}
+use Rattle.history.specs.Causes.{firstTold}
 use Rattle.lines.specs.declared.record.Record.{Record}
 use Rattle.lines.specs.declared.record.Record.the-variants.{Rate, Holiday}
 use Rattle.lines.specs.Lines.{Line, rate, holiday}
@@ -43,8 +44,8 @@ known text = okOr (currencyOf text) (Own CurrencyUnknown None None)
 
 -- what bars a line in form: the first fault that its own fields have, whatever book it meets
 abbrev pub barredFor : Line → Option Told
-barredFor (rate k x) = rateFault (currencyOf k) x
-barredFor (holiday k x) = holidayFault (currencyOf k) x
+barredFor (rate k x) = firstTold (rateFaults k x)
+barredFor (holiday k x) = firstTold (holidayFaults k x)
 
 -- the record of a line that nothing bars
 abbrev pub recordOf : Line → Option Record

@@ -20,7 +20,7 @@ use Rattle.money.specs.Currencies.{currencies, place, letters, isWritten, curr
 use Rattle.money.specs.Options.{firstOf, every}
 use Rattle.money.specs.Ranges.{within, rateRange}
 use Rattle.money.specs.Statuses.{flagOf, statusOf}
-use Rattle.money.proofs.EachCurrency.{each, placed}
+use Rattle.money.proofs.EachCurrency.{each, place-same}
 
 -- CURRENCIES
 
@@ -35,9 +35,6 @@ first-passes f (y ∷ ys) x e = here (f y) refl (first-passes f ys x) e
 pub currency-says : (text : List ℕ) (c : Currency) → currencyOf text ≡ Some c → letters c ≡ text
 unfolding currencyOf
 currency-says text c e = sym (sameBytes-decides text (letters c) .0 (first-passes (isWritten text) currencies c e))
-
-place-same : (c d : Currency) → place c ≡ place d → c ≡ d
-place-same c d e = let p = placed c in let q = placed d in cc
 
 abbrev isAt : ℕ → Option Currency → Bool
 isAt n None = false

@@ -4,6 +4,7 @@ use processor::print::LIMIT;
 use std::error::AnyError;
 use std::io::Read;
 use valuation::flat_charge::FlatCharge;
+use valuation::flat_charge::FlatChargeValuation;
 
 fn run(rt: &LibcRuntime) -> Result<(), AnyError> {
     let mut input = Vec::new(rt.alloc());

@@ -4,6 +4,7 @@ use std::env;
 use std::error::AnyError;
 use std::fs;
 use valuation::flat_charge::FlatCharge;
+use valuation::flat_charge::FlatChargeValuation;
 
 fn show(rt: &LibcRuntime, name: &str) -> Result<(), AnyError> {
     let input = fs::read(rt, name)?;

@@ -16,8 +16,11 @@ use Rattle.money.specs.Options.{before}
 use Rattle.money.specs.Ranges.{within, rateRange}
 use Rattle.money.specs.Refusals.{Told, refusalOf}
 use Rattle.money.specs.Statuses.{statusOf}
-use Rattle.history.specs.Calls.{refused, rateFault, holidayFault, flagFault}
+use Rattle.determination.specs.Valuations.{Valuation}
+use Rattle.history.specs.Causes.{isNone, outside}
 use Rattle.history.specs.States.{State, isRunning}
+use Rattle.history.specs.Steps.{refused}
+use Rattle.history.proofs.Tests.{none-told, is-there, is-within}
 use Rattle.lines.specs.declared.fault.SheetFault.{SheetFault}
 use Rattle.lines.specs.declared.record.Record.{Record}
 use Rattle.lines.specs.declared.record.Record.the-variants.{Rate, Holiday}
@@ -28,45 +31,43 @@ use Rattle.lines.specs.Records.{recordOf, barredFor}
 use Rattle.lines.proofs.AdmissionLaws.{admission-says}
 use Rattle.processor.specs.Performances.{callOf, answerTo, answer, Performed}
 
--- a call that is not refused meets no open run
-not-running : (b : Bool) (fault : Option Told) (t : Told) → cond b (Some t) fault ≡ None → fault ≡ None
-not-running true fault t e = let z : _≡_ {A = ℕ} 0 1 = cc in absurd (omega arith)
-not-running false fault t e = e
-
 -- what the book does not refuse, nothing in the line bars
-not-barred : (s : State) (l : Line) → refused s (callOf l) ≡ None → barredFor l ≡ None
-not-barred s (rate k x) e = not-running (isRunning s) _ _ e
-not-barred s (holiday k x) e = not-running (isRunning s) _ _ e
+not-barred : (v : Valuation) (s : State) (l : Line) → refused v s (callOf l) ≡ None → barredFor l ≡ None
+not-barred v s (rate k x) e = none-told (isRunning s) _ _ e .1
+not-barred v s (holiday k x) e = none-told (isRunning s) _ _ e .1
 
-rate-record : (o : Option Currency) (x : ℤ) (b : Bool) → within rateRange x ≡ b → rateFault o x ≡ None → (r : Record) × (before o (λ c. cond (within rateRange x) (Some (Rate c x)) None) ≡ Some r)
-rate-record None x b is e = let z : _≡_ {A = ℕ} 0 1 = cc in absurd (omega arith)
-rate-record (Some c) x true is e = (Rate c x, rw is)
-rate-record (Some c) x false is e = let f = rw is at e in let z : _≡_ {A = ℕ} 0 1 = cc in absurd (omega arith)
+rate-record : (o : Option Currency) (inside : Bool) (x : ℤ) (c : Currency) → o ≡ Some c → inside ≡ true → before o (λ c. cond inside (Some (Rate c x)) None) ≡ Some (Rate c x)
+rate-record o inside x c is in′ = rw (is, in′)
 
-flag-record : (c : Currency) (o : Option Status) → flagFault c o ≡ None → (r : Record) × (before o (λ status. Some (Holiday c status)) ≡ Some r)
-flag-record c None e = let z : _≡_ {A = ℕ} 0 1 = cc in absurd (omega arith)
-flag-record c (Some status) e = (Holiday c status, refl)
-
-holiday-record : (o : Option Currency) (x : ℤ) → holidayFault o x ≡ None → (r : Record) × (before o (λ c. before (statusOf x) (λ status. Some (Holiday c status))) ≡ Some r)
-holiday-record None x e = let z : _≡_ {A = ℕ} 0 1 = cc in absurd (omega arith)
-holiday-record (Some c) x e = flag-record c (statusOf x) e
+holiday-record : (o : Option Currency) (p : Option Status) (c : Currency) (status : Status) → o ≡ Some c → p ≡ Some status → before o (λ c. before p (λ status. Some (Holiday c status))) ≡ Some (Holiday c status)
+holiday-record o p c status is given = rw (is, given)
 
 -- and what nothing bars has a record
 has-record : (l : Line) → barredFor l ≡ None → (r : Record) × (recordOf l ≡ Some r)
-has-record (rate k x) e = rate-record (currencyOf k) x (within rateRange x) refl e
-has-record (holiday k x) e = holiday-record (currencyOf k) x e
+has-record (rate k x) e =
+    let p = none-told (isNone (currencyOf k)) _ _ e in
+    let q = none-told (outside rateRange x) _ _ (p .1) in
+    let c = is-there (currencyOf k) (p .0) in
+    let w : within rateRange x ≡ true = is-within rateRange x (q .0) in
+    (Rate (c .0) x, rate-record (currencyOf k) (within rateRange x) x (c .0) (c .1) w)
+has-record (holiday k x) e =
+    let p = none-told (isNone (currencyOf k)) _ _ e in
+    let q = none-told (isNone (statusOf x)) _ _ (p .1) in
+    let c = is-there (currencyOf k) (p .0) in
+    let status = is-there (statusOf x) (q .0) in
+    (Holiday (c .0) (status .0), holiday-record (currencyOf k) (statusOf x) (c .0) (status .0) (c .1) (status .1))
 
-admitted : (s : State) (line : List ℕ) (o : Option Line) → parsed line ≡ o → answerTo s o ≡ None → (r : Record) × (admission line ≡ Some r)
-admitted s line None is e = let z : _≡_ {A = ℕ} 0 1 = cc in absurd (omega arith)
-admitted s line (Some l) is e =
-    let r = has-record l (not-barred s l e) in
+admitted : (v : Valuation) (s : State) (line : List ℕ) (o : Option Line) → parsed line ≡ o → answerTo v s o ≡ None → (r : Record) × (admission line ≡ Some r)
+admitted v s line None is e = let z : _≡_ {A = ℕ} 0 1 = cc in absurd (omega arith)
+admitted v s line (Some l) is e =
+    let r = has-record l (not-barred v s l e) in
     (r .0, rw is (r .1))
 
-pub admits : (s : State) (line : List ℕ) → answer s line ≡ None → (x : Record) × Admits line x
-admits s line e =
-    let r = admitted s line (parsed line) refl e in
+pub admits : (v : Valuation) (s : State) (line : List ℕ) → answer v s line ≡ None → (x : Record) × Admits line x
+admits v s line e =
+    let r = admitted v s line (parsed line) refl e in
     (r .0, admission-says line (r .0) (r .1))
 
-pub performed : (s : State) (line : List ℕ) (r : Result Unit SheetFault) → refusalOf told r ≡ answer s line → Performed line r
-performed s line (Ok u) e = admits s line (sym e)
-performed s line (Err f) e = tt
+pub performed : (v : Valuation) (s : State) (line : List ℕ) (r : Result Unit SheetFault) → refusalOf told r ≡ answer v s line → Performed line r
+performed v s line (Ok u) e = admits v s line (sym e)
+performed v s line (Err f) e = tt

@@ -4,20 +4,21 @@ use mathlib.Core.Bool.{cond}
 use mathlib.Core.List.{List, [], _∷_}
 use Prim.Native.Nat.{ℕ}
 use Rattle.std.specs.Options.{isSome}
+use Rattle.determination.specs.Valuations.{Valuation}
 use Rattle.history.specs.States.{State}
 use Rattle.lines.specs.declared.record.Record.{Record}
 use Rattle.lines.specs.Admissions.{Admits}
 use Rattle.processor.specs.Performances.{answer, after}
 
 -- the book after some lines
-abbrev pub afterAll : State → List (List ℕ) → State
-afterAll s [] = s
-afterAll s (line ∷ lines) = afterAll (after s line) lines
+abbrev pub afterAll : Valuation → State → List (List ℕ) → State
+afterAll v s [] = s
+afterAll v s (line ∷ lines) = afterAll v (after v s line) lines
 
 -- those of the lines that are performed
-abbrev pub performed : State → List (List ℕ) → List (List ℕ)
-performed s [] = []
-performed s (line ∷ lines) = cond (isSome (answer s line)) (performed s lines) (line ∷ performed (after s line) lines)
+abbrev pub performed : Valuation → State → List (List ℕ) → List (List ℕ)
+performed v s [] = []
+performed v s (line ∷ lines) = cond (isSome (answer v s line)) (performed v s lines) (line ∷ performed v (after v s line) lines)
 
 -- each of them is a line that some sound record is written as
 abbrev pub AllAdmitted : List (List ℕ) → Type 0
@@ -26,7 +27,7 @@ AllAdmitted (line ∷ lines) = ((x : Record) × Admits line x) × AllAdmitted li
 
 -- Refused lines leave no trace: the performed lines alone make the same book of the one they start from,
 -- none of them is refused on the way, and each is admitted.
-pub record SheetLaw (s : State) (lines : List (List ℕ)) : Type 0 where
-  pub traceless : afterAll s (performed s lines) ≡ afterAll s lines
-  pub unrefused : performed s (performed s lines) ≡ performed s lines
-  pub admitted : AllAdmitted (performed s lines)
+pub record SheetLaw (v : Valuation) (s : State) (lines : List (List ℕ)) : Type 0 where
+  pub traceless : afterAll v s (performed v s lines) ≡ afterAll v s lines
+  pub unrefused : performed v s (performed v s lines) ≡ performed v s lines
+  pub admitted : AllAdmitted (performed v s lines)

@@ -7,7 +7,9 @@ use Rattle.std.specs.declared.result.Result.{Result}
 use Rattle.std.specs.declared.result.Result.the-variants.{Ok, Err}
 use Rattle.money.specs.Refusals.{Told}
 use Rattle.text.specs.Rows.{rows}
-use Rattle.history.specs.Calls.{Call, setRate, setHoliday, refused, step}
+use Rattle.determination.specs.Valuations.{Valuation}
+use Rattle.history.specs.Calls.{Call, setRate, setHoliday}
+use Rattle.history.specs.Steps.{refused, step}
 use Rattle.history.specs.States.{State, newState}
 use Rattle.lines.specs.declared.fault.SheetFault.{SheetFault}
 use Rattle.lines.specs.declared.record.Record.{Record}
@@ -22,21 +24,21 @@ abbrev pub callOf : Line → Call
 callOf (rate k x) = setRate k x
 callOf (holiday k x) = setHoliday k x
 
-abbrev pub answerTo : State → Option Line → Option Told
-answerTo s None = Some noForm
-answerTo s (Some l) = refused s (callOf l)
+abbrev pub answerTo : Valuation → State → Option Line → Option Told
+answerTo v s None = Some noForm
+answerTo v s (Some l) = refused v s (callOf l)
 
 -- what a line is refused for: its form, or what the book says to its call
-abbrev pub answer : State → List ℕ → Option Told
-answer s line = answerTo s (parsed line)
+abbrev pub answer : Valuation → State → List ℕ → Option Told
+answer v s line = answerTo v s (parsed line)
 
-abbrev pub afterOne : State → Option Line → State
-afterOne s None = s
-afterOne s (Some l) = step s (callOf l)
+abbrev pub afterOne : Valuation → State → Option Line → State
+afterOne v s None = s
+afterOne v s (Some l) = step v s (callOf l)
 
 -- the book after a line
-abbrev pub after : State → List ℕ → State
-after s line = afterOne s (parsed line)
+abbrev pub after : Valuation → State → List ℕ → State
+after v s line = afterOne v s (parsed line)
 
 -- a line that is performed is admitted: some sound record is written so
 abbrev pub Performed : List ℕ → Result Unit SheetFault → Type 0
@@ -48,9 +50,9 @@ abbrev pub printed : ℕ → Option Told → List ℕ
 printed n None = []
 printed n (Some told) = shownRefusal n told
 
-abbrev pub outputs : State → ℕ → List (List ℕ) → List ℕ
-outputs s n lines = printedBy (λ s n line. printed n (answer s line)) after s n lines
+abbrev pub outputs : Valuation → State → ℕ → List (List ℕ) → List ℕ
+outputs v s n lines = printedBy (λ s n line. printed n (answer v s line)) (after v) s n lines
 
 -- what the program prints of an input; its book has the number 1
-abbrev pub transcribed : List ℕ → List ℕ
-transcribed input = outputs (newState 1) 0 (rows (sheetOf input))
+abbrev pub transcribed : Valuation → List ℕ → List ℕ
+transcribed v input = outputs v (newState 1) 0 (rows (sheetOf input))

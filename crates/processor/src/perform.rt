@@ -2,7 +2,8 @@
 ghost use mathlib.Core.List.{_++_};
 ghost use mathlib.Core.Path.{_≡_};
 ghost use Rattle.book.specs.Faults.{told as toldByBook};
-ghost use Rattle.history.specs.Calls.{refused, step};
+ghost use Rattle.determination.specs.Valuations.{valuationOf};
+ghost use Rattle.history.specs.Steps.{refused, step};
 ghost use Rattle.history.specs.States.{newState};
 ghost use Rattle.lines.specs.Entries.{meant};
 ghost use Rattle.lines.specs.Faults.{told};
@@ -25,6 +26,7 @@ use lines::form::form;
 use std::alloc::AllocError;
 use std::alloc::Global;
 use text::row::first_line;
+use valuation::valuation::Valuation;
 
 /// The number of the book that a sheet is performed on. It is never printed.
 const BOOK: u32 = 1;
@@ -35,7 +37,7 @@ pub struct Processor<V> {
     book: Book<V>,
 }
 
-impl<V> Processor<V> {
+impl<V: Valuation> Processor<V> {
     /// A processor with a new book under the valuation.
     pub fn new(valuation: V) -> Self
         ensures { λ r. ⌜ stateOf r ≡ newState 1 ⌝ }
@@ -47,16 +49,16 @@ impl<V> Processor<V> {
 
     /// Performs one line, which holds its line feed. A refused line leaves the book as it was.
     pub fn perform(&mut self, line: &[u8]) -> Result<(), SheetFault>
-        ensures answer { λ r. ⌜ refusalOf told r ≡ answer (stateOf (now (self .entry))) (now (line .entry)) ⌝ }
-        ensures after { λ r. ⌜ stateOf (now (self .exit)) ≡ after (stateOf (now (self .entry))) (now (line .entry)) ⌝ }
+        ensures answer { λ r. ⌜ refusalOf told r ≡ answer (valuationOf (V·Valuation .counts) (V·Valuation .admitted)) (stateOf (now (self .entry))) (now (line .entry)) ⌝ }
+        ensures after { λ r. ⌜ stateOf (now (self .exit)) ≡ after (valuationOf (V·Valuation .counts) (V·Valuation .admitted)) (stateOf (now (self .entry))) (now (line .entry)) ⌝ }
         ensures admitted { λ r. ⌜ Performed (now (line .entry)) r ⌝ }
     {
         self.perform_form(line)
     }
 
     fn perform_form(&mut self, line: &[u8]) -> Result<(), SheetFault>
-        ensures answer { λ r. ⌜ refusalOf told r ≡ answer (stateOf (now (self .entry))) (now (line .entry)) ⌝ }
-        ensures after { λ r. ⌜ stateOf (now (self .exit)) ≡ after (stateOf (now (self .entry))) (now (line .entry)) ⌝ }
+        ensures answer { λ r. ⌜ refusalOf told r ≡ answer (valuationOf (V·Valuation .counts) (V·Valuation .admitted)) (stateOf (now (self .entry))) (now (line .entry)) ⌝ }
+        ensures after { λ r. ⌜ stateOf (now (self .exit)) ≡ after (valuationOf (V·Valuation .counts) (V·Valuation .admitted)) (stateOf (now (self .entry))) (now (line .entry)) ⌝ }
     {
         let entry = form(line)?;
         self.enter(entry)?;
@@ -64,8 +66,8 @@ impl<V> Processor<V> {
     }
 
     fn enter(&mut self, entry: Entry<'_>) -> Result<(), BookFault>
-        ensures answer { λ r. ⌜ refusalOf toldByBook r ≡ refused (stateOf (now (self .entry))) (callOf (meant (entry .entry))) ⌝ }
-        ensures after { λ r. ⌜ stateOf (now (self .exit)) ≡ step (stateOf (now (self .entry))) (callOf (meant (entry .entry))) ⌝ }
+        ensures answer { λ r. ⌜ refusalOf toldByBook r ≡ refused (valuationOf (V·Valuation .counts) (V·Valuation .admitted)) (stateOf (now (self .entry))) (callOf (meant (entry .entry))) ⌝ }
+        ensures after { λ r. ⌜ stateOf (now (self .exit)) ≡ step (valuationOf (V·Valuation .counts) (V·Valuation .admitted)) (stateOf (now (self .entry))) (callOf (meant (entry .entry))) ⌝ }
     {
         match entry {
             Entry::Rate { currency, rate } => self.book.set_rate(currency, rate),
@@ -75,8 +77,8 @@ impl<V> Processor<V> {
 
     // Performs one line, and prints its refusal if it has one.
     fn tell(&mut self, number: usize, line: &[u8], out: &mut String) -> Result<(), AllocError>
-        ensures text { λ r. ⌜ made r (λ _. string-bytes (now (out .exit)) ≡ string-bytes (now (out .entry)) ++ printed number (answer (stateOf (now (self .entry))) (now (line .entry)))) ⌝ }
-        ensures after { λ r. ⌜ stateOf (now (self .exit)) ≡ after (stateOf (now (self .entry))) (now (line .entry)) ⌝ }
+        ensures text { λ r. ⌜ made r (λ _. string-bytes (now (out .exit)) ≡ string-bytes (now (out .entry)) ++ printed number (answer (valuationOf (V·Valuation .counts) (V·Valuation .admitted)) (stateOf (now (self .entry))) (now (line .entry)))) ⌝ }
+        ensures after { λ r. ⌜ stateOf (now (self .exit)) ≡ after (valuationOf (V·Valuation .counts) (V·Valuation .admitted)) (stateOf (now (self .entry))) (now (line .entry)) ⌝ }
     {
         match self.perform(line) {
             Ok(()) => Ok(()),
@@ -86,7 +88,7 @@ impl<V> Processor<V> {
 
     // Performs the lines of a sheet one after another.
     fn read(&mut self, sheet: &[u8], out: &mut String) -> Result<(), AllocError>
-        ensures { λ r. ⌜ made r (λ _. string-bytes (now (out .exit)) ≡ string-bytes (now (out .entry)) ++ outputs (stateOf (now (self .entry))) 0 (rows (now (sheet .entry)))) ⌝ }
+        ensures { λ r. ⌜ made r (λ _. string-bytes (now (out .exit)) ≡ string-bytes (now (out .entry)) ++ outputs (valuationOf (V·Valuation .counts) (V·Valuation .admitted)) (stateOf (now (self .entry))) 0 (rows (now (sheet .entry)))) ⌝ }
     {
         let mut rest = sheet;
         let mut number = 0;
@@ -99,8 +101,12 @@ impl<V> Processor<V> {
     }
 }
 
-fn transcribe<V: Drop>(heap: Global, valuation: V, input: &[u8]) -> Result<String, AllocError>
-    ensures { λ r. ⌜ made r (λ t. string-bytes t ≡ transcribed (now (input .entry))) ⌝ }
+fn transcribe<V: Valuation + Drop>(
+    heap: Global,
+    valuation: V,
+    input: &[u8],
+) -> Result<String, AllocError>
+    ensures { λ r. ⌜ made r (λ t. string-bytes t ≡ transcribed (valuationOf (V·Valuation .counts) (V·Valuation .admitted)) (now (input .entry))) ⌝ }
 {
     let mut out = String::new(heap);
     let mut processor = Processor::new(valuation);
@@ -109,9 +115,13 @@ fn transcribe<V: Drop>(heap: Global, valuation: V, input: &[u8]) -> Result<Strin
 }
 
 /// What is printed of an input: its sheet is performed on a new book under the valuation.
-pub fn transcript<V: Drop>(heap: Global, valuation: V, input: &[u8]) -> Result<String, AllocError>
-    ensures law { λ r. ⌜ SheetLaw (newState 1) (rows (sheetOf (now (input .entry)))) ⌝ }
-    ensures text { λ r. ⌜ made r (λ t. string-bytes t ≡ transcribed (now (input .entry))) ⌝ }
+pub fn transcript<V: Valuation + Drop>(
+    heap: Global,
+    valuation: V,
+    input: &[u8],
+) -> Result<String, AllocError>
+    ensures law { λ r. ⌜ SheetLaw (valuationOf (V·Valuation .counts) (V·Valuation .admitted)) (newState 1) (rows (sheetOf (now (input .entry)))) ⌝ }
+    ensures text { λ r. ⌜ made r (λ t. string-bytes t ≡ transcribed (valuationOf (V·Valuation .counts) (V·Valuation .admitted)) (now (input .entry))) ⌝ }
 {
     transcribe(heap, valuation, input)
 }

@@ -8,7 +8,7 @@ use lib.IntN.{ℤ}
 use Rattle.std.proofs.shelf.Tests.{cond-true, cond-false, eq-eqb, ne-eqb}
 use Rattle.money.specs.declared.currency.Currency.{Currency}
 use Rattle.money.specs.Currencies.{place, isSame}
-use Rattle.money.proofs.EachCurrency.{placed}
+use Rattle.money.proofs.EachCurrency.{same-itself, different}
 use Rattle.valuation.specs.Laws.{InRange, Lawful}
 use Rattle.valuation.specs.FlatCharges.{charge, charged, chargedOutside, flatAdmits, flatCount}
 use Rattle.valuation.proofs.LawsBySign.{Fair, FairSides, itself-fair, sides-fair}
@@ -43,12 +43,6 @@ outside-fair : (same : Bool) → Fair (λ x. cond same x (charged x))
 outside-fair true = itself-fair
 outside-fair false = sides-fair _ _ (charge-sides charge charge-fair)
 
-same-itself : (c : Currency) → isSame c c ≡ true
-same-itself c = eq-eqb (place c) (place c) refl
-
-same-different : (b c : Currency) → b ≢ c → isSame b c ≡ false
-same-different b c different = ne-eqb (place b) (place c) (λ e. different (let p = placed b in let q = placed c in cc))
-
 pub flat-lawful : Lawful flatCount flatAdmits
 unfolding flatCount
 flat-lawful =
@@ -58,6 +52,6 @@ flat-lawful =
 -- outside the base an amount counts with its charge
 pub flat-outside : (base currency : Currency) (x : ℤ) → base ≢ currency → InRange x → flatCount base currency x ≡ charged x
 unfolding flatCount
-flat-outside base currency x different range =
+flat-outside base currency x apart range =
     limited-within flatAdmits chargedOutside base currency x refl range
-    ∙ cond-false (isSame base currency) x (charged x) (same-different base currency different)
+    ∙ cond-false (isSame base currency) x (charged x) (different base currency apart)

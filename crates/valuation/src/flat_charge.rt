@@ -1,8 +1,9 @@
 //! The flat charge.
 ghost use mathlib.Core.Path.{_≡_};
-ghost use Prim.Native.Nat.{_≤_};
+ghost use lib.IntN.{pos, natAbs};
+ghost use lib.Signed.{_≤ℤ_};
 ghost use Rattle.valuation.specs.FlatCharges.{charge, charged, flatAdmits, flatCount};
-ghost use Rattle.valuation.specs.Laws.{largest, InRange};
+ghost use Rattle.valuation.specs.Laws.{InRange};
 use crate::range::is_in_range;
 use crate::valuation::Valuation;
 use money::currency::Currency;
@@ -12,10 +13,9 @@ use money::currency::Currency;
 pub struct FlatCharge;
 
 // The charge on an absolute amount: ten in a hundred, rounded up.
-fn charge(amount: u64) -> u64
-    requires { ⌜ amount ≤ largest ⌝ }
-    ensures answer { λ r. ⌜ r ≡ charge amount ⌝ }
-    ensures within { λ r. ⌜ r ≤ amount ⌝ }
+fn charge(amount: i64) -> i64
+    requires { ⌜ InRange amount ⌝ ∗ ⌜ pos 0 ≤ℤ amount ⌝ }
+    ensures { λ r. ⌜ r ≡ pos (charge (natAbs amount)) ⌝ }
 {
     (10 * amount + 99) / 100
 }
@@ -25,11 +25,11 @@ fn charged(amount: i64) -> i64
     requires { ⌜ InRange amount ⌝ }
     ensures { λ r. ⌜ r ≡ charged amount ⌝ }
 {
-    let absolute = amount.unsigned_abs();
     if amount < 0 {
-        -((absolute + charge(absolute)) as i64)
+        let deficiency = -amount;
+        -(deficiency + charge(deficiency))
     } else {
-        (absolute - charge(absolute)) as i64
+        amount - charge(amount)
     }
 }
 

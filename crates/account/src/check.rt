@@ -1,7 +1,7 @@
 //! Figures are tested here, since a figure out of range is the account layer's to tell.
 ghost use mathlib.Core.Path.{_≡_};
 ghost use Rattle.account.specs.Faults.{outOfRange};
-ghost use Rattle.account.specs.Figures.{rateAnswer, statusAnswer};
+ghost use Rattle.account.specs.Checks.{rateAnswer, statusAnswer};
 ghost use Rattle.std.specs.declared.option.Option.the-variants.{Some, None};
 use crate::fault::AccountFault;
 use money::cause::AccountCause;

@@ -1,0 +1,10 @@
+pub mod Namings
+pub mod Sums
+pub mod Products
+pub mod Points
+pub mod WalkLaws
+pub mod BalanceLaws
+pub mod FirstOpenLaws
+pub mod CallLaws
+pub mod RepaymentLaws
+pub mod DeterminationLaws

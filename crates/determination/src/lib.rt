@@ -1,0 +1,3 @@
+//! What one account pays or gets.
+pub mod determination;
+pub mod law;
