@@ -75,7 +75,7 @@ keeps-holiday v s currency flag inv e =
 pub keeps-accounts : (v : Valuation) (s : State) (accounts : List AccountState) (optimizations : List OptimizationAccount) → Invariant v s → isRunning s ≡ false → every sound accounts ≡ true → every (λ a. v .admits (a .base)) accounts ≡ true → Invariant v (withAccounts s accounts optimizations)
 keeps-accounts v s accounts optimizations inv idle a b = record { sound = a; admitted = b; rates = inv .rates; rateForEach = inv .rateForEach; tied = idle-tied v s _ idle }
 
-every-inserted : (f : AccountState → Bool) (a : AccountState) (xs : List AccountState) → f a ≡ true → every f xs ≡ true → every f (insertAccount a xs) ≡ true
+pub every-inserted : (f : AccountState → Bool) (a : AccountState) (xs : List AccountState) → f a ≡ true → every f xs ≡ true → every f (insertAccount a xs) ≡ true
 every-inserted f a [] is all = and-from _ _ is refl
 every-inserted f a (x ∷ xs) is all = by (isBelow (bytesOf (a .code)) (bytesOf (x .code))) (and-parts (f x) (every f xs) all) (every-inserted f a xs is)
   where

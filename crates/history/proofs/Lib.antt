@@ -13,3 +13,4 @@ pub mod Conservation
 pub mod Standings
 pub mod Callbacks
 pub mod Theorem
+pub mod FactLaws

@@ -39,7 +39,7 @@ keeps v s cutOff lawful inv e = keeps-cut-off v s inv e
 keeps v s (conclude run failed) lawful inv e = keeps-conclusion every-determination v s run failed lawful inv e
 keeps v s (askStanding code) lawful inv e = inv
 
-invariant-after : (v : Valuation) (number : ℕ) (history : List Call) → IsLawful v → Invariant v (after v number history)
+pub invariant-after : (v : Valuation) (number : ℕ) (history : List Call) → IsLawful v → Invariant v (after v number history)
 invariant-after v number [] lawful = record { sound = refl; admitted = refl; rates = refl; rateForEach = refl; tied = λ e. let z : _≡_ {A = ℕ} 0 1 = cc in absurd (omega arith) }
 invariant-after v number (call ∷ history) lawful = by (after v number history) (refused v (after v number history) call) refl (invariant-after v number history lawful)
   where

@@ -7,3 +7,4 @@ pub mod Steps
 pub mod Histories
 pub mod Laws
 pub mod Mornings
+pub mod Facts
