@@ -1,0 +1,4 @@
+pub mod Lists
+pub mod Ranges
+pub mod SoundAccounts
+pub mod SoundBookings

@@ -3,15 +3,16 @@ use mathlib.Core.Bool.{Bool, _&&_}
 use mathlib.Core.List.{List}
 use Prim.Native.Nat.{ℕ}
 use lib.Dec.{eqb}
-use lib.IntN.{ℤ, pos}
+use lib.IntN.{ℤ, pos, negℤ}
 use lib.ListN.{getD, length, replicate, set}
+use lib.Signed.{_≤ℤ_}
 use Rattle.std.specs.shelf.Text.{sameBytes}
 use Rattle.money.specs.declared.code.Code.{Code}
 use Rattle.money.specs.declared.currency.Currency.{Currency}
 use Rattle.money.specs.Codes.{bytesOf}
 use Rattle.money.specs.Currencies.{currencies, place}
 use Rattle.money.specs.Options.{every}
-use Rattle.money.specs.Ranges.{within, figureRange, settlementRange}
+use Rattle.money.specs.Ranges.{bound, within, figureRange, settlementRange}
 use Rattle.account.specs.declared.account.AccountState.{AccountState}
 use Rattle.account.specs.declared.account.Figures.{Figures}
 use Rattle.account.specs.declared.terms.DebitSetting.{DebitSetting}
@@ -60,6 +61,21 @@ abbrev pub inRange : Figures → Bool
 inRange f =
     within figureRange (f .cash) && within figureRange (f .limit) && within figureRange (f .excess)
     && within figureRange (f .«non_cash») && within figureRange (f .requirement) && within settlementRange (f .settlement)
+
+-- a figure from 0 to the bound
+pub record UpToBound (x : ℤ) : Type 0 where
+  pub low : pos 0 ≤ℤ x
+  pub high : x ≤ℤ bound
+
+-- the ranges of all figures, as orders of numbers
+pub record Ranged (f : Figures) : Type 0 where
+  pub cash : UpToBound (f .cash)
+  pub limit : UpToBound (f .limit)
+  pub excess : UpToBound (f .excess)
+  pub nonCash : UpToBound (f .«non_cash»)
+  pub requirement : UpToBound (f .requirement)
+  pub lowest : negℤ bound ≤ℤ f .settlement
+  pub highest : f .settlement ≤ℤ bound
 
 -- an account as it can be: figures for each currency, all in range, and a priority that names each currency once
 unfoldable pub sound : AccountState → Bool

@@ -3,3 +3,5 @@ pub mod Checks
 pub mod Terms
 pub mod Priorities
 pub mod Accounts
+pub mod Bookings
+pub mod Answers

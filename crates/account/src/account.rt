@@ -21,6 +21,16 @@ pub struct Figures {
     pub settlement: i64,
 }
 
+/// All figures 0.
+pub const NO_FIGURES: Figures = Figures {
+    cash: 0,
+    limit: 0,
+    excess: 0,
+    non_cash: 0,
+    requirement: 0,
+    settlement: 0,
+};
+
 /// An account with all its terms and figures; currencies stand in book order.
 #[derive(Clone, Copy)]
 pub struct AccountState {

@@ -2,5 +2,6 @@
 pub mod account;
 pub mod check;
 pub mod fault;
+pub mod held;
 pub mod priority;
 pub mod terms;

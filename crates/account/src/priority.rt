@@ -11,3 +11,12 @@ pub struct Priority {
     order: [Currency; COUNT],
     ghost once: { namesEachOnce order ≡ true },
 }
+
+impl Priority {
+    /// The currencies in their order.
+    pub fn order(self) -> [Currency; COUNT]
+        ensures { λ r. ⌜ r ≡ self .order ⌝ }
+    {
+        self.order
+    }
+}

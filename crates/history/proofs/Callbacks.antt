@@ -20,14 +20,17 @@ use Rattle.money.specs.Ranges.{rateRange}
 use Rattle.money.proofs.EachCurrency.{same-itself}
 use Rattle.account.specs.declared.account.AccountState.{AccountState}
 use Rattle.account.specs.declared.account.Figures.{Figures}
-use Rattle.account.specs.Accounts.{figuresIn, withFigures, hasCode, sound}
+use Rattle.account.specs.Accounts.{figuresIn, withFigures, hasCode, sound, Ranged}
+use Rattle.account.specs.Bookings.{callbackBooked, changeFigures}
+use Rattle.account.proofs.Ranges.{within-says}
+use Rattle.account.proofs.SoundAccounts.{figures-ranged}
 use Rattle.valuation.specs.Laws.{InRange}
 use Rattle.determination.specs.Balances.{standingAmount, dueToHouse}
 use Rattle.determination.specs.Standings.{standingAmountIn, standing}
 use Rattle.determination.specs.Valuations.{Valuation, IsLawful, Market, worth}
 use Rattle.determination.proofs.Points.{Valued, points, taking-costs}
 use Rattle.determination.proofs.Sums.{sum-one-less}
-use Rattle.history.specs.Bookings.{booked, callbackBooked, changeFigures, changeFirst, callbackRefusal}
+use Rattle.history.specs.Bookings.{booked, changeFirst, callbackRefusal}
 use Rattle.history.specs.Laws.{CallbackLaw, Stands, CoversLimit}
 use Rattle.history.specs.States.{State, marketOf, missingRate, accountWith}
 use Rattle.history.proofs.Concluding.{rated}
@@ -36,8 +39,6 @@ use Rattle.history.proofs.Invariant.{Invariant}
 use Rattle.history.proofs.Keeping.{Granted, granted}
 use Rattle.history.proofs.Named.{Named, booked-is}
 use Rattle.history.proofs.Places.{figures-with}
-use Rattle.history.proofs.Ranges.{Ranged, within-says}
-use Rattle.history.proofs.SoundAccounts.{figures-ranged}
 
 -- the account after the callback
 abbrev calledBack : ℤ → Currency → AccountState → AccountState

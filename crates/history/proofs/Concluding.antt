@@ -25,7 +25,10 @@ use Rattle.account.specs.declared.account.AccountState.{AccountState}
 use Rattle.account.specs.declared.account.Figures.{Figures}
 use Rattle.account.specs.declared.terms.Level.{Level}
 use Rattle.account.specs.declared.terms.Level.the-variants.{MarginRequirement, CashOptimization}
-use Rattle.account.specs.Accounts.{noFigures, figuresIn, hasCode, inRange, sound}
+use Rattle.account.specs.Accounts.{noFigures, figuresIn, hasCode, inRange, sound, Ranged}
+use Rattle.account.proofs.Lists.{every-at-place}
+use Rattle.account.proofs.Ranges.{in-range-from}
+use Rattle.account.proofs.SoundAccounts.{sound-says, sound-from, figures-ranged}
 use Rattle.determination.specs.declared.determination.Determination.{Determination}
 use Rattle.determination.specs.Balances.{heldCash, room}
 use Rattle.determination.specs.Determinations.{call, repayment, determination, amountIn, cashWithCall}
@@ -40,9 +43,7 @@ use Rattle.history.specs.declared.run.OpenRun.{OpenRun}
 use Rattle.history.proofs.Concluded.{concludedBy, call-determined, repayment-determined, concludes-open, accounts-concluded}
 use Rattle.history.proofs.Found.{found-every}
 use Rattle.history.proofs.Invariant.{fineRate, Tied, Invariant}
-use Rattle.history.proofs.Lists.{every-at-place, every-map, every-and, every-of, none-passes}
-use Rattle.history.proofs.Ranges.{Ranged, in-range-from}
-use Rattle.history.proofs.SoundAccounts.{sound-says, sound-from, figures-ranged}
+use Rattle.history.proofs.Lists.{every-map, every-and, every-of, none-passes}
 use Rattle.history.proofs.Tests.{none-told, not-there, not-not, both-ways}
 
 -- WHAT A RUN IS DETERMINED BY

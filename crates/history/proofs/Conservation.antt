@@ -22,10 +22,11 @@ use Rattle.money.proofs.EachCurrency.{same-currency}
 use Rattle.account.specs.declared.account.AccountState.{AccountState}
 use Rattle.account.specs.declared.account.Figures.{Figures}
 use Rattle.account.specs.Accounts.{noFigures, figuresIn, newAccount, hasCode, sound}
+use Rattle.account.specs.Bookings.{changeFigures, withLimits, withMargin, depositBooked, settlementBooked, callbackBooked}
 use Rattle.account.specs.Priorities.{priorityOf}
 use Rattle.account.specs.Terms.{levelOf, settingOf}
 use Rattle.determination.specs.Valuations.{Valuation}
-use Rattle.history.specs.Bookings.{orSame, withAccounts, heldUnder, isHeld, isBelow, insertAccount, figuresFor, limitsFaults, marginFaults, depositFaults, settlementFaults, callbackFaults, changeFirst, changeFigures, booked, withLimits, withMargin, depositBooked, settlementBooked, callbackBooked}
+use Rattle.history.specs.Bookings.{orSame, withAccounts, heldUnder, isHeld, isBelow, insertAccount, figuresFor, limitsFaults, marginFaults, depositFaults, settlementFaults, callbackFaults, changeFirst, booked}
 use Rattle.history.specs.Calls.{Call, setRate, setHoliday, openAccount, setLimits, setMargin, deposit, settle, callBack, cutOff, conclude, askStanding, FailedDebit, RunNumbers}
 use Rattle.history.specs.Causes.{isNone}
 use Rattle.history.specs.Histories.{determined, isCarriedOut, isCode, amountFor, shareCarriedOut, paidIn}

@@ -22,21 +22,23 @@ use Rattle.money.specs.Refusals.{Told}
 use Rattle.money.specs.Statuses.{statusOf}
 use Rattle.account.specs.declared.account.AccountState.{AccountState}
 use Rattle.account.specs.declared.account.Figures.{Figures}
-use Rattle.account.specs.Accounts.{figuresIn, newAccount, hasCode, sound}
+use Rattle.account.specs.Accounts.{figuresIn, newAccount, hasCode, sound, UpToBound, Ranged}
+use Rattle.account.specs.Bookings.{withLimits, withMargin, changeFigures, depositBooked, settlementBooked, callbackBooked}
 use Rattle.account.specs.Priorities.{namesEachOnce, named, priorityOf}
 use Rattle.account.specs.Terms.{levelOf, settingOf}
+use Rattle.account.proofs.Lists.{every-set}
+use Rattle.account.proofs.Ranges.{le-test, within-says}
+use Rattle.account.proofs.SoundAccounts.{figures-ranged, sound-with, sound-new}
 use Rattle.determination.specs.Balances.{dueToHouse}
 use Rattle.determination.specs.Standings.{standingAmountIn, standing, withinCeilings}
 use Rattle.determination.specs.Valuations.{Valuation}
 use Rattle.history.specs.declared.optimization.OptimizationAccount.{OptimizationAccount}
-use Rattle.history.specs.Bookings.{withRates, withStatuses, withAccounts, orSame, rateRefusal, rateSet, holidayRefusal, holidaySet, heldUnder, isHeld, isFull, admitsBase, openingRefusal, isBelow, insertAccount, insertNumber, opened, withOpened, figuresOf, limitsFaults, marginFaults, depositFaults, settlementFaults, callbackFaults, limitsRefusal, marginRefusal, depositRefusal, settlementRefusal, isStopped, isWithinCeilings, callbackRefusal, withLimits, withMargin, changeFirst, changeFigures, booked, depositBooked, settlementBooked, callbackBooked}
+use Rattle.history.specs.Bookings.{withRates, withStatuses, withAccounts, orSame, rateRefusal, rateSet, holidayRefusal, holidaySet, heldUnder, isHeld, isFull, admitsBase, openingRefusal, isBelow, insertAccount, insertNumber, opened, withOpened, figuresOf, limitsFaults, marginFaults, depositFaults, settlementFaults, callbackFaults, limitsRefusal, marginRefusal, depositRefusal, settlementRefusal, isStopped, isWithinCeilings, callbackRefusal, changeFirst, booked}
 use Rattle.history.specs.Causes.{isNone, outside}
 use Rattle.history.specs.States.{State, isRunning, marketOf, missingRate, accountWith}
 use Rattle.history.proofs.Invariant.{fineRate, Tied, Invariant}
-use Rattle.history.proofs.Lists.{every-set, every-changed}
+use Rattle.history.proofs.Lists.{every-changed}
 use Rattle.history.proofs.Named.{Named, named-says, figures-of, or-same, booked-is}
-use Rattle.history.proofs.Ranges.{le-test, within-says, UpToBound, Ranged}
-use Rattle.history.proofs.SoundAccounts.{figures-ranged, sound-with, sound-new}
 use Rattle.history.proofs.Tests.{none-told, is-there, not-there, not-not, is-within, both-ways}
 
 -- where no run is open nothing is kept

@@ -1,9 +1,7 @@
 pub mod Tests
 pub mod Lists
 pub mod Found
-pub mod Ranges
 pub mod Invariant
-pub mod SoundAccounts
 pub mod Places
 pub mod Named
 pub mod Keeping

@@ -13,7 +13,8 @@ use Rattle.money.specs.Refusals.{Told}
 use Rattle.account.specs.declared.account.AccountState.{AccountState}
 use Rattle.account.specs.declared.account.Figures.{Figures}
 use Rattle.account.specs.Accounts.{figuresIn, hasCode}
-use Rattle.history.specs.Bookings.{orSame, heldUnder, isHeld, figuresFor, figuresOf, accountFaults, booked, changeFirst, changeFigures, withAccounts}
+use Rattle.account.specs.Bookings.{changeFigures}
+use Rattle.history.specs.Bookings.{orSame, heldUnder, isHeld, figuresFor, figuresOf, accountFaults, booked, changeFirst, withAccounts}
 use Rattle.history.specs.Causes.{firstTold, isNone}
 use Rattle.history.specs.States.{State, isRunning, accountWith}
 use Rattle.history.proofs.Tests.{none-told, is-there, not-not}

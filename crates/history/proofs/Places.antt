@@ -19,7 +19,7 @@ use Rattle.account.specs.declared.account.AccountState.{AccountState}
 use Rattle.account.specs.declared.account.Figures.{Figures}
 use Rattle.account.specs.Accounts.{noFigures, figuresIn, withFigures, hasCode, inRange, sound}
 use Rattle.account.specs.Priorities.{namesEachOnce}
-use Rattle.history.proofs.SoundAccounts.{sound-says}
+use Rattle.account.proofs.SoundAccounts.{sound-says}
 
 -- FIGURES
 

@@ -3,7 +3,7 @@ use mathlib.Core.Bool.{Bool, true, false, cond, not, _&&_, _||_}
 use mathlib.Core.List.{List, [], _∷_}
 use Prim.Native.Nat.{ℕ}
 use lib.Dec.{eqb, leb, ltb}
-use lib.IntN.{ℤ, pos, natAbs, negℤ, _+ℤ_, _-ℤ_}
+use lib.IntN.{ℤ, pos, natAbs, negℤ, _+ℤ_}
 use lib.ListN.{length, set}
 use lib.Signed.{ltZ}
 use Rattle.std.specs.declared.option.Option.{Option}
@@ -24,7 +24,8 @@ use Rattle.money.specs.Refusals.{Told, tells}
 use Rattle.money.specs.Statuses.{statusOf}
 use Rattle.account.specs.declared.account.AccountState.{AccountState}
 use Rattle.account.specs.declared.account.Figures.{Figures}
-use Rattle.account.specs.Accounts.{noFigures, figuresIn, withFigures, newAccount, hasCode}
+use Rattle.account.specs.Accounts.{noFigures, figuresIn, newAccount, hasCode}
+use Rattle.account.specs.Bookings.{changeFigures}
 use Rattle.account.specs.Priorities.{priorityOf}
 use Rattle.account.specs.Terms.{levelOf, settingOf}
 use Rattle.determination.specs.Standings.{withinCeilings}
@@ -233,40 +234,15 @@ callbackFaults v s code currency amount =
 abbrev pub callbackRefusal : Valuation → State → List ℕ → List ℕ → ℤ → Option Told
 callbackRefusal v s code currency amount = accountFaults s code currency (callbackFaults v s code currency amount)
 
--- figures with other parts
-abbrev pub withCash : ℤ → Figures → Figures
-withCash x f = record { cash = x; limit = f .limit; excess = f .excess; «non_cash» = f .«non_cash»; requirement = f .requirement; settlement = f .settlement }
-
-abbrev pub withSettlement : ℤ → Figures → Figures
-withSettlement x f = record { cash = f .cash; limit = f .limit; excess = f .excess; «non_cash» = f .«non_cash»; requirement = f .requirement; settlement = x }
-
-abbrev pub withLimits : ℤ → ℤ → Figures → Figures
-withLimits limit excess f = record { cash = f .cash; limit = limit; excess = excess; «non_cash» = f .«non_cash»; requirement = f .requirement; settlement = f .settlement }
-
-abbrev pub withMargin : ℤ → ℤ → Figures → Figures
-withMargin requirement nonCash f = record { cash = f .cash; limit = f .limit; excess = f .excess; «non_cash» = nonCash; requirement = requirement; settlement = f .settlement }
-
 -- the first that passes a test is changed, and no other
 abbrev pub changeFirst : {X : Type 0} → (X → Bool) → (X → X) → List X → List X
 changeFirst test change [] = []
 changeFirst test change (x ∷ xs) = cond (test x) (change x ∷ xs) (x ∷ changeFirst test change xs)
 
-abbrev pub changeFigures : (Figures → Figures) → Currency → AccountState → AccountState
-changeFigures change c a = withFigures a c (change (figuresIn a c))
-
 -- the account that a call names is changed in its currency, and no other
 abbrev pub booked : State → List ℕ → List ℕ → (Figures → Figures) → State
 booked s code currency change = orSame s (codeOf code) (λ k. orSame s (currencyOf currency) (λ c.
     withAccounts s (changeFirst (hasCode k) (changeFigures change c) (s .accounts)) (s .optimizations)))
-
-abbrev pub depositBooked : ℤ → Figures → Figures
-depositBooked amount f = withCash (f .cash +ℤ amount) f
-
-abbrev pub settlementBooked : ℤ → Figures → Figures
-settlementBooked amount f = withSettlement (f .settlement +ℤ amount) f
-
-abbrev pub callbackBooked : ℤ → Figures → Figures
-callbackBooked amount f = withCash (f .cash -ℤ amount) f
 
 -- QUESTIONS
 

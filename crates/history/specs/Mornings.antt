@@ -23,13 +23,14 @@ use Rattle.account.specs.declared.terms.DebitSetting.the-variants.{MarginCurren
 use Rattle.account.specs.declared.terms.Level.{Level}
 use Rattle.account.specs.declared.terms.Level.the-variants.{MarginRequirement, CashOptimization}
 use Rattle.account.specs.Accounts.{noFigures, figuresIn, withFigures, newAccount}
+use Rattle.account.specs.Bookings.{depositBooked}
 use Rattle.valuation.specs.FlatCharges.{flatCount, flatAdmits}
 use Rattle.valuation.specs.Norms.{normCount, normAdmits}
 use Rattle.determination.specs.declared.determination.Determination.{Determination}
 use Rattle.determination.specs.Determinations.{balanceIn, total, call, repayment, share, determination}
 use Rattle.determination.specs.Standings.{standing}
 use Rattle.determination.specs.Valuations.{Valuation, valuationOf, Market}
-use Rattle.history.specs.Bookings.{depositRefusal, depositBooked, booked, withAccounts}
+use Rattle.history.specs.Bookings.{depositRefusal, booked, withAccounts}
 use Rattle.history.specs.Calls.{FailedDebit}
 use Rattle.history.specs.Runs.{netPayment, carriedOut, concludedAccount, concludedAccounts}
 use Rattle.history.specs.States.{State, newState}

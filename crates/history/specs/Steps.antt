@@ -3,8 +3,9 @@ use Prim.Native.Nat.{ℕ}
 use Rattle.std.specs.declared.option.Option.{Option}
 use Rattle.std.specs.declared.option.Option.the-variants.{Some, None}
 use Rattle.money.specs.Refusals.{Told}
+use Rattle.account.specs.Bookings.{withLimits, withMargin, depositBooked, settlementBooked, callbackBooked}
 use Rattle.determination.specs.Valuations.{Valuation}
-use Rattle.history.specs.Bookings.{rateRefusal, rateSet, holidayRefusal, holidaySet, openingRefusal, opened, limitsRefusal, marginRefusal, depositRefusal, settlementRefusal, callbackRefusal, booked, withLimits, withMargin, depositBooked, settlementBooked, callbackBooked, standingRefusal}
+use Rattle.history.specs.Bookings.{rateRefusal, rateSet, holidayRefusal, holidaySet, openingRefusal, opened, limitsRefusal, marginRefusal, depositRefusal, settlementRefusal, callbackRefusal, booked, standingRefusal}
 use Rattle.history.specs.Calls.{Call, setRate, setHoliday, openAccount, setLimits, setMargin, deposit, settle, callBack, cutOff, conclude, askStanding}
 use Rattle.history.specs.Runs.{cutOffRefusal, withRun, conclusionRefusal, withConclusion}
 use Rattle.history.specs.States.{State}

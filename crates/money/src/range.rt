@@ -18,6 +18,30 @@ pub const RATE: Range = Range {
     high: 999_999,
 };
 
+/// Cash, a requirement, a value that is not cash, a limit or an excess.
+pub const FIGURE: Range = Range {
+    low: 0,
+    high: BOUND,
+};
+
+/// Open settlement, or a settlement that is booked.
+pub const SETTLEMENT: Range = Range {
+    low: -BOUND,
+    high: BOUND,
+};
+
+/// A deposit or a callback.
+pub const PAYMENT: Range = Range {
+    low: 1,
+    high: BOUND,
+};
+
+/// The number of an optimization account.
+pub const OPTIMIZATION: Range = Range {
+    low: 1,
+    high: 999_999,
+};
+
 impl Range {
     /// Whether the figure lies in the range.
     pub fn holds(self, figure: i64) -> bool

@@ -8,9 +8,9 @@ use Rattle.std.proofs.shelf.Signed.{ints}
 use Rattle.std.proofs.shelf.Tests.{and-parts, and-from}
 use Rattle.std.proofs.shelf.Ways.{tells}
 use Rattle.money.specs.declared.range.Range.{Range}
-use Rattle.money.specs.Ranges.{bound, within, figureRange, settlementRange}
+use Rattle.money.specs.Ranges.{within, figureRange, settlementRange}
 use Rattle.account.specs.declared.account.Figures.{Figures}
-use Rattle.account.specs.Accounts.{inRange}
+use Rattle.account.specs.Accounts.{inRange, UpToBound, Ranged}
 
 pub le-test : (a b : ℤ) → leZ a b ≡ true → a ≤ℤ b
 le-test a b e = grind (arith, ints)
@@ -26,21 +26,7 @@ within-says range x e =
 pub within-from : (range : Range) (x : ℤ) → range .low ≤ℤ x → x ≤ℤ range .high → within range x ≡ true
 within-from range x l h = and-from _ _ (test-le (range .low) x l) (test-le x (range .high) h)
 
--- a figure from 0 to the bound
-pub record UpToBound (x : ℤ) : Type 0 where
-  pub low : pos 0 ≤ℤ x
-  pub high : x ≤ℤ bound
-
-pub record Ranged (f : Figures) : Type 0 where
-  pub cash : UpToBound (f .cash)
-  pub limit : UpToBound (f .limit)
-  pub excess : UpToBound (f .excess)
-  pub nonCash : UpToBound (f .«non_cash»)
-  pub requirement : UpToBound (f .requirement)
-  pub lowest : negℤ bound ≤ℤ f .settlement
-  pub highest : f .settlement ≤ℤ bound
-
-figure : (x : ℤ) → within figureRange x ≡ true → UpToBound x
+pub figure : (x : ℤ) → within figureRange x ≡ true → UpToBound x
 figure x e = let p = within-says figureRange x e in record { low = p .0; high = p .1 }
 
 abbrev fits : ℤ → Bool

@@ -13,14 +13,14 @@ use Rattle.money.specs.declared.currency.Currency.{Currency}
 use Rattle.money.specs.Currencies.{currencies, place}
 use Rattle.money.specs.Options.{every}
 use Rattle.money.proofs.EachCurrency.{place-within}
 use Rattle.account.specs.declared.account.AccountState.{AccountState}
 use Rattle.account.specs.declared.account.Figures.{Figures}
 use Rattle.account.specs.declared.terms.DebitSetting.{DebitSetting}
 use Rattle.account.specs.declared.terms.Level.{Level}
-use Rattle.account.specs.Accounts.{noFigures, figuresIn, withAllFigures, withFigures, newAccount, inRange, sound}
+use Rattle.account.specs.Accounts.{noFigures, figuresIn, withAllFigures, withFigures, newAccount, inRange, Ranged, sound}
 use Rattle.account.specs.Priorities.{namesEachOnce}
-use Rattle.history.proofs.Lists.{every-at-place, every-set}
-use Rattle.history.proofs.Ranges.{Ranged, in-range-says, in-range-from}
+use Rattle.account.proofs.Lists.{every-at-place, every-set}
+use Rattle.account.proofs.Ranges.{in-range-says, in-range-from}
 
 pub record Parts (a : AccountState) : Type 0 where
   pub forEach : length (a .figures) ≡ length currencies
