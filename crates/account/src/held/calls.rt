@@ -48,13 +48,6 @@ impl Account {
         }
     }
 
-    /// The code.
-    pub fn code(&self) -> Code
-        ensures { λ r. ⌜ r ≡ stateOf (now (self .entry)) .code ⌝ }
-    {
-        self.state.code
-    }
-
     /// The figures in a currency.
     pub fn figures(&self, currency: Currency) -> Figures
         ensures answer { λ r. ⌜ r ≡ figuresIn (stateOf (now (self .entry))) currency ⌝ }
