@@ -1,3 +1,4 @@
 //! What one account pays or gets.
+#![tactic(auto)]
 pub mod determination;
 pub mod law;

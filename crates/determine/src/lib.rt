@@ -1,4 +1,5 @@
 //! What one account pays or gets, worked out.
+#![tactic(auto)]
 mod balance;
 mod calls;
 pub mod determine;

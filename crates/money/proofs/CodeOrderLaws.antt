@@ -40,7 +40,7 @@ less-bytes (x ∷ xs) [] e = absurd (omega arith)
 less-bytes (x ∷ xs) (y ∷ ys) e = then_less (nat_cmp x y) (slice_cmp nat_cmp xs ys) ∙ (λ i. cond (unsigned_tied x y i) (less-bytes xs ys (omega arith) i) (rank_less x y i))
 
 -- the derived order is that of the bytes
-cmp-lex : (x y : Code) → code_order.cmp x y ≡ slice_cmp nat_cmp (bytes_of x) (bytes_of y)
+cmp-lex : (x y : Code) → code_order x y ≡ slice_cmp nat_cmp (bytes_of x) (bytes_of y)
 cmp-lex x y =
     ap (λ r. ordering_then (nat_cmp x.0 y.0) (ordering_then (nat_cmp x.1 y.1) (ordering_then (nat_cmp x.2 y.2) (ordering_then (nat_cmp x.3 y.3) (ordering_then (nat_cmp x.4 y.4) (ordering_then (nat_cmp x.5 y.5) (ordering_then (nat_cmp x.6 y.6) r)))))))
     (last (nat_cmp x.7 y.7))
@@ -51,9 +51,9 @@ cmp-lex x y =
     last Greater = refl
 
 -- the order does not tell two codes apart just where their bytes are the same
-pub tied-same : (x y : Code) → is_eq (code_order.cmp x y) ≡ bytes_eq (bytes_of x) (bytes_of y)
+pub tied-same : (x y : Code) → is_eq (code_order x y) ≡ bytes_eq (bytes_of x) (bytes_of y)
 tied-same x y = ap is_eq (cmp-lex x y) ∙ tied-bytes (bytes_of x) (bytes_of y)
 
 -- and puts one below another just where the first byte that differs does
-pub less-below : (x y : Code) → is_lt (code_order.cmp x y) ≡ is_below (bytes_of x) (bytes_of y)
+pub less-below : (x y : Code) → is_lt (code_order x y) ≡ is_below (bytes_of x) (bytes_of y)
 less-below x y = ap is_lt (cmp-lex x y) ∙ less-bytes (bytes_of x) (bytes_of y) refl

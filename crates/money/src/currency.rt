@@ -72,7 +72,7 @@ impl Currency {
     fn is_written(self, text: &[u8]) -> bool
         ensures { result ≡ is_written text.now self }
     {
-        text == self.letters()
+        text == self.letters().as_slice()
     }
 }
 

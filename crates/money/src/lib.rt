@@ -1,4 +1,5 @@
 //! Currencies, account codes, ranges of figures, and what a refusal tells.
+#![tactic(auto)]
 pub mod cause;
 pub mod code;
 pub mod currency;

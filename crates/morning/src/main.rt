@@ -1,4 +1,5 @@
 //! Performs the sheet on standard input, and prints what it did.
+#![tactic(auto)]
 use processor::perform::transcript;
 use processor::print::LIMIT;
 use std::io::Read;

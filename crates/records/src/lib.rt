@@ -1,4 +1,5 @@
 //! What admitted lines say: records, how they are written, and how lines are admitted.
+#![tactic(auto)]
 pub mod admission;
 mod ending;
 pub mod record;

@@ -1,17 +1,15 @@
 -- The laws of `place_of` and `count_below`, and what a binary search tells of an ascending row.
-use Rattle.std.proofs.Common.{◌≡◌, ℕ, zero, suc, ◌+◌, ◌-◌, ◌<◌, ◌≤◌, Bool, true, false, cond, T, ◌⊎◌, List, [], ◌∷◌, length, get_or, IfSome, Some, None, Ok, Err, Option, Result, Ordering, Less, Equal, Greater, sym, refl, ap, ◌∙◌, subst, inl, inr, true≢false, arith, MatchOption, MatchResult}
-use Rattle.std.specs.List.{insert, HoldsAt, AllWithin}
+use Rattle.std.proofs.Common.{◌≡◌, ℕ, zero, suc, ◌+◌, ◌-◌, ◌<◌, ◌≤◌, Bool, true, false, cond, ◌&&◌, T, ◌⊎◌, List, [], ◌∷◌, length, get_or, IfSome, Some, None, Ok, Err, Option, Result, Ordering, Less, Equal, Greater, sym, refl, ap, ◌∙◌, subst, inl, inr, true≢false, arith, MatchOption, MatchResult}
+use Rattle.std.specs.List.{insert, HoldsAt, AllWithin, AllByRecursion}
 use Rattle.std.specs.Cmp.{IsTotalOrder, alike_right}
 use Rattle.std.specs.Result.{result_ok}
 use Rattle.std.specs.Ordering.{is_eq, is_lt, ordering_reverse, ordering_index}
-use Rattle.std.specs.List.Sorted.{IsNonDecreasingBy, IsPartitionPoint, IsBinarySearchResult}
-use Rattle.std.specs.BTreeMap.AsLists.{CmpEqualImpliesEq}
+use Rattle.std.specs.List.Sorted.{IsNonDecreasingBy, IsPartitionPoint, IsBinarySearchResult, IsStrictlySortedBy}
 use Rattle.std.proofs.lemmas.List.Edits.{length-insert, get_or-insert_below, get_or-insert_at, get_or-insert_above}
-use Rattle.std.proofs.lemmas.Map.Invariant.{sorted-from-test, test-from-sorted}
 use Rattle.std.proofs.lemmas.Map.Keys.{Less-from_sorted, sorted_from_all_adjacent}
 use Rattle.std.proofs.lemmas.List.Sorted.{searchable_from_sorted}
 use Rattle.std.proofs.lemmas.Bool.{cases_lt, cases_order}
-use Rattle.register.specs.Rows.{ascending, further, place_of, count_below, Stands, IsPlace, InsertionPoint, ended}
+use Rattle.register.specs.Rows.{below_all, ascending, IsExact, further, place_of, count_below, Stands, IsPlace, InsertionPoint, ended}
 
 -- ---- the places that a search may answer
 
@@ -71,6 +69,40 @@ module _ {K : Type 0} (c : K → K → Ordering) (key : K) where
       by : (j < i) ⊎ (i ≤ j) → is_eq (c (get_or keys j d) key) ≡ false
       by (inl l) = ap is_eq (p.0 j d a l)
       by (inr l) = ap is_eq (p.1 j d l b)
+
+-- ---- the test of a row, and what it says
+
+module _ {K : Type 0} (c : K → K → Ordering) where
+  all-from-test : (key : K) (ks : List K) → T (below_all c key ks) → AllByRecursion (λ k. c key k ≡ Less) ks
+  all-from-test key [] h = tt
+  all-from-test key (k ∷ ks) h = by (c key k) h
+    where
+      by : (r : Ordering) → T (is_lt r && below_all c key ks) → (r ≡ Less) × AllByRecursion (λ k. c key k ≡ Less) ks
+      by Less h = (refl, all-from-test key ks h)
+      by Equal h = absurd h
+      by Greater h = absurd h
+
+  test-from-all : (key : K) (ks : List K) → AllByRecursion (λ k. c key k ≡ Less) ks → T (below_all c key ks)
+  test-from-all key [] h = tt
+  test-from-all key (k ∷ ks) h = subst (λ r. T (is_lt r && below_all c key ks)) (sym h.0) (test-from-all key ks h.1)
+
+  pub sorted-from-test : (ks : List K) → T (ascending c ks) → IsStrictlySortedBy c ks
+  unfolding IsStrictlySortedBy
+  sorted-from-test [] h = tt
+  sorted-from-test (k ∷ ks) h = by (below_all c k ks) refl h
+    where
+      by : (b : Bool) → below_all c k ks ≡ b → T (b && ascending c ks) → AllByRecursion (λ y. c k y ≡ Less) ks × IsStrictlySortedBy c ks
+      by true e h = (all-from-test k ks (subst T (sym e) tt), sorted-from-test ks h)
+      by false e h = absurd h
+
+  pub test-from-sorted : (ks : List K) → IsStrictlySortedBy c ks → T (ascending c ks)
+  unfolding IsStrictlySortedBy
+  test-from-sorted [] h = tt
+  test-from-sorted (k ∷ ks) h = by (below_all c k ks) (test-from-all k ks h.0)
+    where
+      by : (b : Bool) → T b → T (b && ascending c ks)
+      by true e = test-from-sorted ks h.1
+      by false e = absurd e
 
 -- ---- a total order, and a row that ascends
 
@@ -176,7 +208,7 @@ module _ {K : Type 0} {R : K → K → Ordering} (o : IsTotalOrder R) where
           let e : HoldsAt (λ k. R k key ≡ Equal) keys i = λ d. ap (λ k. R k key) (s.1 d) ∙ itself key in
           place-some R key keys i s.0 (λ j d a b. ap is_eq (before-equal i s.0 e j d a b)) e
 
-      pub is-place : CmpEqualImpliesEq R → (r : Option ℕ) → IfSome r (λ i. i < length keys) → MatchOption r (AllWithin (λ k. is_eq (R k key) ≡ false) keys 0 (length keys)) (HoldsAt (λ k. R k key ≡ Equal) keys) → IsPlace keys key r
+      pub is-place : IsExact R → (r : Option ℕ) → IfSome r (λ i. i < length keys) → MatchOption r (AllWithin (λ k. is_eq (R k key) ≡ false) keys 0 (length keys)) (HoldsAt (λ k. R k key ≡ Equal) keys) → IsPlace keys key r
       is-place exact r l h = record {
         found = found_at;
         stands = stands_at r l h;

@@ -1,14 +1,23 @@
 -- Rows of keys under an order: `c k l` says how the key k compares with l.
-use Rattle.std.specs.Prelude.{◌≡◌, ℕ, suc, ◌<◌, Bool, false, cond, T, List, [], ◌∷◌, length, Some, None, Ok, Err, Option, Result, slice_index_or}
-use Rattle.std.specs.declared.cmp.Ordering.TheVariants.{Less}
+use Rattle.std.specs.Prelude.{◌≡◌, ℕ, suc, ◌<◌, Bool, true, false, cond, ◌&&◌, T, List, [], ◌∷◌, length, Some, None, Ok, Err, Option, Result, slice_index_or}
+use Rattle.std.specs.declared.cmp.Ordering.TheVariants.{Less, Equal}
 use Rattle.std.specs.declared.cmp.Ordering.{Ordering}
 use Rattle.std.specs.List.{insert, AllWithin}
 use Rattle.std.specs.Ordering.{is_eq, is_lt}
-use Rattle.std.specs.Map.Invariant.{is-strictly-sorted-by}
+
+-- whether a key is below every key of a row
+abbrev pub below_all : {K : Type 0} → (K → K → Ordering) → K → List K → Bool
+below_all c key [] = true
+below_all c key (k ∷ ks) = is_lt (c key k) && below_all c key ks
 
 -- whether each key of a row is below every key after it
 abbrev pub ascending : {K : Type 0} → (K → K → Ordering) → List K → Bool
-ascending c keys = is-strictly-sorted-by c keys
+ascending c [] = true
+ascending c (k ∷ ks) = below_all c k ks && ascending c ks
+
+-- the order tells any two keys apart
+abbrev pub IsExact : {K : Type 0} → (K → K → Ordering) → Type 0
+IsExact {K} c = (x y : K) → c x y ≡ Equal → x ≡ y
 
 -- one place further on
 abbrev pub further : Option ℕ → Option ℕ

@@ -1,17 +1,17 @@
 //! Look-up in an ascending row of keys, for every key whose order is total.
+#![tactic(auto)]
 mod worked;
 
 ghost use Rattle.std.specs.Prelude.{◌≡◌, ◌<◌, ◌≤◌, T, length, IfSome};
-ghost use Rattle.register.specs.Rows.{ascending, place_of, count_below, IsPlace, InsertionPoint, ended};
+ghost use Rattle.register.specs.Rows.{ascending, place_of, count_below, IsPlace, InsertionPoint, IsExact, ended};
 ghost use Rattle.std.specs.Cmp.{IsTotalOrder};
 ghost use Rattle.std.specs.Result.{result_ok};
-ghost use Rattle.std.specs.BTreeMap.AsLists.{CmpEqualImpliesEq};
 
 // The standard search, with what its answer tells of an ascending row: the place where the key was met, and the place where the search ended.
 fn search<K: Ord>(keys: &[K], key: &K) -> Result<usize, usize>
     ensures met_within { IfSome (result_ok result) (λ i. i < length keys.now) }
     ensures met_answer { (o : IsTotalOrder K.Ord.cmp) → T (ascending K.Ord.cmp keys.now) → result_ok result ≡ place_of K.Ord.cmp keys.now key.now }
-    ensures met_place { (o : IsTotalOrder K.Ord.cmp) → CmpEqualImpliesEq K.Ord.cmp → T (ascending K.Ord.cmp keys.now) → IsPlace keys.now key.now (result_ok result) }
+    ensures met_place { (o : IsTotalOrder K.Ord.cmp) → IsExact K.Ord.cmp → T (ascending K.Ord.cmp keys.now) → IsPlace keys.now key.now (result_ok result) }
     ensures ended_within { ended result ≤ length keys.now }
     ensures ended_answer { (o : IsTotalOrder K.Ord.cmp) → T (ascending K.Ord.cmp keys.now) → ended result ≡ count_below K.Ord.cmp keys.now key.now }
     ensures ended_point { (o : IsTotalOrder K.Ord.cmp) → T (ascending K.Ord.cmp keys.now) → InsertionPoint K.Ord.cmp keys.now key.now (ended result) }
@@ -23,7 +23,7 @@ fn search<K: Ord>(keys: &[K], key: &K) -> Result<usize, usize>
 pub fn find<K: Ord>(keys: &[K], key: &K) -> Option<usize>
     ensures within { IfSome result (λ i. i < length keys.now) }
     ensures answer { T (ascending K.Ord.cmp keys.now) → result ≡ place_of K.Ord.cmp keys.now key.now }
-    ensures place { CmpEqualImpliesEq K.Ord.cmp → T (ascending K.Ord.cmp keys.now) → IsPlace keys.now key.now result }
+    ensures place { IsExact K.Ord.cmp → T (ascending K.Ord.cmp keys.now) → IsPlace keys.now key.now result }
 {
     match search(keys, key) {
         Ok(i) => Some(i),

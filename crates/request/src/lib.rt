@@ -1,4 +1,5 @@
 //! What a call of the book is about, and the book layer's fault.
+#![tactic(auto)]
 pub mod fault;
 pub mod opening;
 pub mod subject;

@@ -7,15 +7,15 @@ pub returns : goal.returns
 returns g c =
     let keys = c.args.keys.now in
     let key = c.args.key.now in
-    let r = c.binary-search.result in
-    let e = c.binary-search.ensures in
+    let r = c.binary_search.result in
+    let e = c.binary_search.ensures in
     let met = met-within (length keys) r e.bound in
     let ended = ended-within (length keys) r e.bound in
     record {
-      met-within = met;
-      met-answer = λ o up. place_found o keys up key _ met (met-cases o keys up key r (e.position o));
-      met-place = λ o exact up. is-place o keys up key exact _ met (met-cases o keys up key r (e.position o));
-      ended-within = ended;
-      ended-answer = λ o up. let p = parted o keys up key r e.bound (e.position o) in count-parted o.cmp key keys _ ended p.0 p.1;
-      ended-point = λ o up. point-found o keys up key _ ended (parted o keys up key r e.bound (e.position o));
+      met_within = met;
+      met_answer = λ o up. place_found o keys up key _ met (met-cases o keys up key r (e.position o));
+      met_place = λ o exact up. is-place o keys up key exact _ met (met-cases o keys up key r (e.position o));
+      ended_within = ended;
+      ended_answer = λ o up. let p = parted o keys up key r e.bound (e.position o) in count-parted g.K.Ord.cmp key keys _ ended p.0 p.1;
+      ended_point = λ o up. point-found o keys up key _ ended (parted o keys up key r e.bound (e.position o));
     }

@@ -3,4 +3,4 @@ use Rattle.money.proofs.code.Code.read.Goals as goal
 
 pub returns : goal.returns
 unfolding code_of
-returns c = c.of-eight.ensures
+returns c = c.of_eight.ensures
