@@ -72,15 +72,23 @@ module _ {K : Type 0} (c : K → K → Ordering) (key : K) where
 
 -- ---- the test of a row, and what it says
 
+less_and : (r : Ordering) (b : Bool) → T (is_lt r && b) → (r ≡ Less) × T b
+less_and Less b h = (refl, h)
+less_and Equal b h = absurd h
+less_and Greater b h = absurd h
+
+both_of : (a b : Bool) → T (a && b) → T a × T b
+both_of true b h = (tt, h)
+both_of false b h = absurd h
+
+both_true : (a b : Bool) → T a → T b → T (a && b)
+both_true true b h k = k
+both_true false b h k = absurd h
+
 module _ {K : Type 0} (c : K → K → Ordering) where
   all-from-test : (key : K) (ks : List K) → T (below_all c key ks) → AllByRecursion (λ k. c key k ≡ Less) ks
   all-from-test key [] h = tt
-  all-from-test key (k ∷ ks) h = by (c key k) h
-    where
-      by : (r : Ordering) → T (is_lt r && below_all c key ks) → (r ≡ Less) × AllByRecursion (λ k. c key k ≡ Less) ks
-      by Less h = (refl, all-from-test key ks h)
-      by Equal h = absurd h
-      by Greater h = absurd h
+  all-from-test key (k ∷ ks) h = let p = less_and (c key k) (below_all c key ks) h in (p.0, all-from-test key ks p.1)
 
   test-from-all : (key : K) (ks : List K) → AllByRecursion (λ k. c key k ≡ Less) ks → T (below_all c key ks)
   test-from-all key [] h = tt
@@ -89,20 +97,12 @@ module _ {K : Type 0} (c : K → K → Ordering) where
   pub sorted-from-test : (ks : List K) → T (ascending c ks) → IsStrictlySortedBy c ks
   unfolding IsStrictlySortedBy
   sorted-from-test [] h = tt
-  sorted-from-test (k ∷ ks) h = by (below_all c k ks) refl h
-    where
-      by : (b : Bool) → below_all c k ks ≡ b → T (b && ascending c ks) → AllByRecursion (λ y. c k y ≡ Less) ks × IsStrictlySortedBy c ks
-      by true e h = (all-from-test k ks (subst T (sym e) tt), sorted-from-test ks h)
-      by false e h = absurd h
+  sorted-from-test (k ∷ ks) h = let p = both_of (below_all c k ks) (ascending c ks) h in (all-from-test k ks p.0, sorted-from-test ks p.1)
 
   pub test-from-sorted : (ks : List K) → IsStrictlySortedBy c ks → T (ascending c ks)
   unfolding IsStrictlySortedBy
   test-from-sorted [] h = tt
-  test-from-sorted (k ∷ ks) h = by (below_all c k ks) (test-from-all k ks h.0)
-    where
-      by : (b : Bool) → T b → T (b && ascending c ks)
-      by true e = test-from-sorted ks h.1
-      by false e = absurd e
+  test-from-sorted (k ∷ ks) h = both_true (below_all c k ks) (ascending c ks) (test-from-all k ks h.0) (test-from-sorted ks h.1)
 
 -- ---- a total order, and a row that ascends
 

@@ -1,5 +1,6 @@
 //! Look-up in an ascending row of keys, for every key whose order is total.
 #![tactic(auto)]
+
 mod worked;
 
 ghost use Rattle.std.specs.Prelude.{◌≡◌, ◌<◌, ◌≤◌, T, length, IfSome};

@@ -1,5 +1,6 @@
 //! What an amount counts for in the total of an account.
 #![tactic(auto)]
+
 pub mod flat_charge;
 pub mod lending_norms;
 mod range;

@@ -13,9 +13,9 @@ returns g c =
     let ended = ended-within (length keys) r e.bound in
     record {
       met_within = met;
-      met_answer = λ o up. place_found o keys up key _ met (met-cases o keys up key r (e.position o));
-      met_place = λ o exact up. is-place o keys up key exact _ met (met-cases o keys up key r (e.position o));
+      met_answer = λ o up. place_found o keys up key _ met (met-cases o keys up key r e.position);
+      met_place = λ o exact up. is-place o keys up key exact _ met (met-cases o keys up key r e.position);
       ended_within = ended;
-      ended_answer = λ o up. let p = parted o keys up key r e.bound (e.position o) in count-parted g.K.Ord.cmp key keys _ ended p.0 p.1;
-      ended_point = λ o up. point-found o keys up key _ ended (parted o keys up key r e.bound (e.position o));
+      ended_answer = λ o up. let p = parted o keys up key r e.bound e.position in count-parted g.K.Ord.cmp key keys _ ended p.0 p.1;
+      ended_point = λ o up. point-found o keys up key _ ended (parted o keys up key r e.bound e.position);
     }

@@ -13,8 +13,8 @@ use Rattle.determine.proofs.Payments.{rest-at-end}
 use Rattle.determine.proofs.Rated.{is-rate}
 use Rattle.determine.proofs.calls.calls_by_margin.Goals as goal
 
-pub call-besides-requires : goal.call-besides-requires
-call-besides-requires c =
+pub call_besides-requires : goal.call_besides-requires
+call_besides-requires c =
     let m = market_in c.args.market.now in
     let a = state_of c.args.account.now in
     let rated = is-rate c.args.market.now.rates c.args.market.now.rated in
@@ -38,5 +38,5 @@ returns c =
     to_z-of_z w64 c.walk-rest.result.0 fits ∙ c.walk-rest.ensures.rest ∙ ap (rest_at_end (taken_at Call m a) m.rate a.priority) short in
     let called : c.walk-rest.result.1 ≡ map (taken (taken_at Call m a) m.rate a.priority c.args.short) currencies =
     c.walk-rest.ensures.taken ∙ ap (λ z. map (taken (taken_at Call m a) m.rate a.priority z) currencies) short in
-    c.call-besides.ensures
-    ∙ margin-listed m rated a c.args.short c.walk-rest.result.1 called c.first-open-first.result (to_z w64 (of_z w64 c.walk-rest.result.0)) c.first-open-first.ensures rest
+    c.call_besides.ensures
+    ∙ margin-listed m rated a c.args.short c.walk-rest.result.1 called c.first_open-first.result (to_z w64 (of_z w64 c.walk-rest.result.0)) c.first_open-first.ensures rest

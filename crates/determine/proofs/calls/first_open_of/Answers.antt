@@ -6,8 +6,8 @@ use Rattle.money.specs.Options.{first_of}
 use Rattle.determine.specs.Markets.{market_in}
 use Rattle.determine.proofs.calls.first_open_of.Goals as goal
 
-pub returns-then-is-open : goal.returns-then-is-open
-returns-then-is-open c =
+pub returns-then-is_open : goal.returns-then-is_open
+returns-then-is_open c =
     let m = market_in c.args.market.now in
     let cs = c.args.order.now in
     let i = c.loop-currency.currency-index in

@@ -8,10 +8,10 @@ use Rattle.determine.proofs.Determined.{calls-small, short-rest}
 use Rattle.determine.proofs.Rated.{is-rate}
 use Rattle.determine.proofs.determine.determine_at.Goals as goal
 
-pub past-bound-requires : goal.past-bound-requires
-past-bound-requires c =
+pub past_bound-requires : goal.past_bound-requires
+past_bound-requires c =
     let m = market_in c.args.market.now in
     let a = state_of c.args.account.now in
     let t = c.args.total in
-    let called : c.calls-of-calls.result ≡ calls_for a.setting m a (deficiency_of t) = search rules in
+    let called : c.calls_of-calls.result ≡ calls_for a.setting m a (deficiency_of t) = search rules in
     subst EachSmall (sym called) (calls-small m a (deficiency_of t) (is-rate c.args.market.now.rates c.args.market.now.rated) (short-rest t c.requires) a.setting)

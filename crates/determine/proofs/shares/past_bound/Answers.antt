@@ -8,8 +8,8 @@ use Rattle.account.specs.Answers.{state_of}
 use Rattle.determine.specs.Listed.{is_past_bound}
 use Rattle.determine.proofs.shares.past_bound.Goals as goal
 
-pub returns-then-is-past-bound : goal.returns-then-is-past-bound
-returns-then-is-past-bound c =
+pub returns-then-is_past_bound : goal.returns-then-is_past_bound
+returns-then-is_past_bound c =
     let f = is_past_bound (state_of c.args.account.now) c.args.calls.now in
     let i = c.loop-currency.currency-index in
     let past : f (get_or currencies i Gbp) ≡ true = search rules in

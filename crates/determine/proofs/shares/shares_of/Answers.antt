@@ -12,8 +12,8 @@ use Rattle.determine.specs.Sizes.{Small}
 use Rattle.determine.proofs.Listings.{place_at}
 use Rattle.determine.proofs.shares.shares_of.Goals as goal
 
-pub share-in-requires : goal.share-in-requires
-share-in-requires c =
+pub share_in-requires : goal.share_in-requires
+share_in-requires c =
     let k = get_or currencies c.loop-currency.currency-index Gbp in
     let at : c.index-at.result ≡ place k = search rules in
     let call : Small (get_or c.args.calls.now c.index-at.result (pos 0)) = rw at (c.requires.calls k) in
@@ -28,8 +28,8 @@ loop-currency-preserved c =
     let here : i < length currencies = c.loop-currency-test.true in
     let at : place k ≡ i = place_at i Gbp here in
     let wrote_at : c.index-at.result ≡ place k = search rules in
-    let share : c.share-in.result ≡ f k = search rules in
-    let wrote : to_z w64 (of_z w64 c.share-in.result) ≡ f k = to_z-of_z w64 c.share-in.result (record { sfits = c.share-in.type-inv }) ∙ share in
+    let share : c.share_in.result ≡ f k = search rules in
+    let wrote : to_z w64 (of_z w64 c.share_in.result) ≡ f k = to_z-of_z w64 c.share_in.result (record { sfits = c.share_in.type_inv }) ∙ share in
     let inv = c.loop-currency.invariant in
     let shares = c.loop-currency.shares in
     let room : i < length shares = omega (arith, inv.1) in (

@@ -8,6 +8,6 @@ use Rattle.determine.proofs.shares.with_call.Goals as goal
 pub sum-requires : goal.sum-requires
 sum-requires c =
     let a = state_of c.args.account.now in
-    let held : c.held-in.result ≡ held_in a c.args.currency = search rules in
-    let ranged : InRange c.held-in.result = rw held (held-in-account a c.args.account.now.soundness c.args.currency) in
+    let held : c.held_in.result ≡ held_in a c.args.currency = search rules in
+    let ranged : InRange c.held_in.result = rw held (held-in-account a c.args.account.now.soundness c.args.currency) in
     search rules

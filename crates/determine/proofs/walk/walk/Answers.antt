@@ -15,14 +15,14 @@ use Rattle.determine.proofs.Payments.{taken-turned, rest-after}
 use Rattle.determine.proofs.Rated.{is-rate}
 use Rattle.determine.proofs.walk.walk.Goals as goal
 
-pub rest-less-rest-requires : goal.rest-less-rest-requires
-rest-less-rest-requires c =
+pub rest_less-rest-requires : goal.rest_less-rest-requires
+rest_less-rest-requires c =
     let m = market_in c.args.market.now in
     let a = state_of c.args.account.now in
     let r = c.loop-currency.rest in
     let k = get_or a.priority c.loop-currency.currency-index Gbp in
-    let took : c.taken-at-amount.result ≡ taken_at c.args.payment m a r k = search rules in
-    let t : Turned r (m.rate k) c.taken-at-amount.result = rw took (taken-turned m (is-rate c.args.market.now.rates c.args.market.now.rated) a c.args.payment r k (subst Rest c.loop-currency.rest-is c.loop-currency.invariant.2)) in
+    let took : c.taken_at-amount.result ≡ taken_at c.args.payment m a r k = search rules in
+    let t : Turned r (m.rate k) c.taken_at-amount.result = rw took (taken-turned m (is-rate c.args.market.now.rates c.args.market.now.rated) a c.args.payment r k (subst Rest c.loop-currency.rest-is c.loop-currency.invariant.2)) in
     search rules
 
 pub loop-currency-preserved : goal.loop-currency-preserved
@@ -35,11 +35,11 @@ loop-currency-preserved c =
     let k = get_or a.priority i Gbp in
     let named : i < length a.priority = search rules in
     let at : c.index.result ≡ place k = search rules in
-    let took : c.taken-at-amount.result ≡ take r k = search rules in
-    let rested : c.rest-less-rest.result ≡ rest_after take m.rate r k = search rules in
+    let took : c.taken_at-amount.result ≡ take r k = search rules in
+    let rested : c.rest_less-rest.result ≡ rest_after take m.rate r k = search rules in
     let more = walked_more take m.rate a.priority i r Gbp c.loop-currency.amounts named in
-    let new : to_z w64 (of_z w64 c.rest-less-rest.result) ≡ rest_after take m.rate r k = to_z-of_z w64 c.rest-less-rest.result (record { sfits = c.rest-less-rest.type-inv }) ∙ rested in
-    let wrote : to_z w64 (of_z w64 c.taken-at-amount.result) ≡ take r k = to_z-of_z w64 c.taken-at-amount.result (record { sfits = c.taken-at-amount.type-inv }) ∙ took in
+    let new : to_z w64 (of_z w64 c.rest_less-rest.result) ≡ rest_after take m.rate r k = to_z-of_z w64 c.rest_less-rest.result (record { sfits = c.rest_less-rest.type_inv }) ∙ rested in
+    let wrote : to_z w64 (of_z w64 c.taken_at-amount.result) ≡ take r k = to_z-of_z w64 c.taken_at-amount.result (record { sfits = c.taken_at-amount.type_inv }) ∙ took in
     let old = sym c.loop-currency.rest-is in
     let inv = c.loop-currency.invariant in (
       ap (rest_at_end take m.rate (drop (i + 1) a.priority)) new ∙ sym more.0 ∙ ap (rest_at_end take m.rate (drop i a.priority)) old ∙ inv.0,

@@ -16,12 +16,12 @@ small g c =
 -- the product as the machine has it
 product : (g : given.Over) (c : goal.After-rate g) → to_z w64 (of_z w64 c.counted.result) *ℤ to_z w64 (of_z w64 c.rate.result) ≡ c.counted.result *ℤ c.rate.result
 product g c =
-    let one : SFits w64 c.counted.result = record { sfits = c.counted.type-inv } in
-    let other : SFits w64 c.rate.result = record { sfits = c.rate.type-inv } in
+    let one : SFits w64 c.counted.result = record { sfits = c.counted.type_inv } in
+    let other : SFits w64 c.rate.result = record { sfits = c.rate.type_inv } in
     simp to_z-of_z
 
-pub overflow-mul-result : goal.overflow-mul-result
-overflow-mul-result g c = let s = small g c in simp (product g c) (omega (arith, ints))
+pub overflow_mul-result : goal.overflow_mul-result
+overflow_mul-result g c = let s = small g c in simp (product g c) (omega (arith, ints))
 
 pub returns : goal.returns
 returns g c =

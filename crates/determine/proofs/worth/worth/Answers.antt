@@ -10,8 +10,8 @@ use Rattle.determine.specs.Markets.{market_in}
 use Rattle.determine.proofs.Values.{sum_more, worth-of}
 use Rattle.determine.proofs.worth.worth.Goals as goal
 
-pub overflow-add-sum : goal.overflow-add-sum
-overflow-add-sum g c = let h = c.loop-currency.invariant.1 in let b = c.points-sum.ensures.small in omega (arith, ints)
+pub overflow_add-sum : goal.overflow_add-sum
+overflow_add-sum g c = let h = c.loop-currency.invariant.1 in let b = c.points-sum.ensures.small in omega (arith, ints)
 
 pub loop-currency-preserved : goal.loop-currency-preserved
 loop-currency-preserved g c =

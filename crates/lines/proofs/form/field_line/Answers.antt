@@ -2,8 +2,8 @@ use Rattle.std.proofs.Common.{◌≡◌, rules, ne_eqb}
 use Rattle.lines.proofs.form.field_line.Goals as goal
 
 -- none of the letters
-pub returns-in-default : goal.returns-in-default
-returns-in-default c =
+pub returns-in_default : goal.returns-in_default
+returns-in_default c =
     let r : c.args.letter ≡ 82 → ⊥ = search rules in
     let h : c.args.letter ≡ 72 → ⊥ = search rules in
     let a : c.args.letter ≡ 65 → ⊥ = search rules in

@@ -12,5 +12,5 @@ exactly bytes (Err f) is = λ x h. let p = form-reads bytes x h in let z : ◌�
 
 pub returns : goal.returns
 returns c =
-    let reading : entry_of c.ok-or.result ≡ parsed c.args.line.now = search rules in
-    record { answer = search rules; reading = reading; exact = exactly c.args.line.now c.ok-or.result reading }
+    let reading : entry_of c.ok_or.result ≡ parsed c.args.line.now = search rules in
+    record { answer = search rules; reading = reading; exact = exactly c.args.line.now c.ok_or.result reading }

@@ -7,4 +7,4 @@ pub returns-in-9 : goal.returns-in-9
 returns-in-9 c =
     let long : 2 ≤ length c.args.body.now = search rules in
     let tab : get_or c.args.body.now 1 0 ≡ 9 = search rules in
-    simp take_rest at c.field-line.ensures ∙ sym (lettered-tab c.args.body.now long tab)
+    simp take_rest at c.field_line.ensures ∙ sym (lettered-tab c.args.body.now long tab)

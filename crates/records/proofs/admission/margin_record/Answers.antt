@@ -3,5 +3,5 @@ use Rattle.money.specs.Ranges.{within, figure_range}
 use Rattle.records.proofs.FieldLaws.{not-both}
 use Rattle.records.proofs.admission.margin_record.Goals as goal
 
-pub returns-in-err-check-figures : goal.returns-in-err-check-figures
-returns-in-err-check-figures c = let either = not-both (within figure_range c.args.requirement) (within figure_range c.args.non-cash) in search rules
+pub returns-in_err-check_figures : goal.returns-in_err-check_figures
+returns-in_err-check_figures c = let either = not-both (within figure_range c.args.requirement) (within figure_range c.args.non_cash) in search rules

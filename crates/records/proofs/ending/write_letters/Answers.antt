@@ -11,7 +11,7 @@ loop-currency-init g c plain = record { wrote = writes_in_calls_nil _ _; plain =
 pub loop-currency-preserved : goal.loop-currency-preserved
 loop-currency-preserved g c plain =
     let so_far = c.loop-currency.invariant plain in
-    let more = c.write.ensures.writes so_far.plain (ap is_ok c.in-ok-write.was) in
+    let more = c.write.ensures.writes so_far.plain (ap is_ok c.in_ok-write.was) in
     has_written_of_eq _ _ _ _ _ (letters-more c.args.order.now c.loop-currency.currency-index Gbp (omega arith)) (has_written_append _ _ _ _ _ _ so_far more)
 
 pub returns : goal.returns

@@ -7,21 +7,21 @@ use Rattle.std.proofs.lemmas.List.{length-take, take_all}
 use Rattle.text.proofs.DigitLaws.{own, plain, no_digit, all_digits}
 use Rattle.text.proofs.number.counted_digits.Goals as goal
 
-pub returns-then-not-is-ascii-digit : goal.returns-then-not-is-ascii-digit
-returns-then-not-is-ascii-digit c = record { value = rw (no_digit c.args.text.now c.loop-b.b-index (omega arith) (sym c.if-not-is-ascii-digit.ensures.value)); bound = tt }
+pub returns-then-not-is_ascii_digit : goal.returns-then-not-is_ascii_digit
+returns-then-not-is_ascii_digit c = record { value = rw (no_digit c.args.text.now c.loop-b.b-index (omega arith) (sym c.if-not-is_ascii_digit.ensures.value)); bound = tt }
 
-pub overflow-mul-n : goal.overflow-mul-n
-overflow-mul-n c = omega (arith, c.loop-b.invariant.0, digits_value_short plain (take c.loop-b.b-index c.args.text.now) 12 c.loop-b.invariant.1 (simp length-take (omega arith)))
+pub overflow_mul-n : goal.overflow_mul-n
+overflow_mul-n c = omega (arith, c.loop-b.invariant.0, digits_value_short plain (take c.loop-b.b-index c.args.text.now) 12 c.loop-b.invariant.1 (simp length-take (omega arith)))
 
-pub overflow-add-n : goal.overflow-add-n
-overflow-add-n c =
-    omega (arith, c.loop-b.invariant.0, digits_value_short plain (take c.loop-b.b-index c.args.text.now) 12 c.loop-b.invariant.1 (simp length-take (omega arith)), c.if-not-is-ascii-digit.ensures.cases)
+pub overflow_add-n : goal.overflow_add-n
+overflow_add-n c =
+    omega (arith, c.loop-b.invariant.0, digits_value_short plain (take c.loop-b.b-index c.args.text.now) 12 c.loop-b.invariant.1 (simp length-take (omega arith)), c.if-not-is_ascii_digit.ensures.cases)
 
 pub loop-b-preserved : goal.loop-b-preserved
 loop-b-preserved c =
     let xs = c.args.text.now in
     let i = c.loop-b.b-index in
-    let digit = c.if-not-is-ascii-digit.ensures in
+    let digit = c.if-not-is_ascii_digit.ensures in
     let lt : i < length xs = omega arith in
     let worth = digit_value_digit (get_or xs i 0) (omega (arith, digit.cases), omega (arith, digit.cases)) in (
       omega (arith, c.loop-b.invariant.0, digits_value_more 10 xs i lt, worth, c.from.ensures),

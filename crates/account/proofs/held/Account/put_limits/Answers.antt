@@ -3,9 +3,8 @@ use Rattle.std.proofs.lemmas.Int.{to_z-of_z}
 use Rattle.account.proofs.SoundBookings.{sound-limits}
 use Rattle.account.proofs.held.Account.put_limits.Goals as goal
 
-pub invariant-of-self : goal.invariant-of-self
-invariant-of-self c = (
-  simp (c.index.ensures, to_z-of_z w64 c.args.limit c.ranges.limit, to_z-of_z w64 c.args.excess c.ranges.excess)
-      (sound-limits c.args.self.now.state c.args.currency c.args.limit c.args.excess c.args.self.now.soundness c.requires),
-  tt,
-)
+pub invariant_of-self : goal.invariant_of-self
+invariant_of-self c = record {
+  soundness = simp (c.index.ensures, to_z-of_z w64 c.args.limit c.ranges.limit, to_z-of_z w64 c.args.excess c.ranges.excess)
+      (sound-limits c.args.self.now.state c.args.currency c.args.limit c.args.excess c.args.self.now.soundness c.requires);
+}

@@ -5,12 +5,12 @@ use Rattle.book.specs.Books.{meaning}
 use Rattle.book.proofs.InPlace.{answer-is, codes-stay, rows-after}
 use Rattle.book.proofs.book.Book.book_at.Goals as goal
 
-pub invariant-of-self : goal.invariant-of-self
-invariant-of-self g c =
+pub invariant_of-self : goal.invariant_of-self
+invariant_of-self g c =
     let book = c.args.self.now in
     let rows = vec_items book.accounts.rows in
     let lt : c.args.at < length rows = omega (arith, c.requires, book.accounts.rows.ok.0) in
-    let codes = codes-stay rows c.args.at c.index-mut.result.now c.book.new.self lt c.index-mut.ensures.value (change_figures (booking_change c.args.booking) c.args.currency) (λ a. refl) c.book.result c.book.ensures.after in
+    let codes = codes-stay rows c.args.at c.index_mut.result.now c.book.new.self lt c.index_mut.ensures.value (change_figures (booking_change c.args.booking) c.args.currency) (λ a. refl) c.book.result c.book.ensures.after in
     (codes ∙ book.coded, (book.rising, (book.numbered, (book.climbing, (book.few, (book.less, (book.roomy, (book.wide, (book.spare, (book.broad, tt))))))))))
 
 pub returns : goal.returns
@@ -19,7 +19,7 @@ returns g c =
     let rows = vec_items book.accounts.rows in
     let lt : c.args.at < length rows = omega (arith, c.requires, book.accounts.rows.ok.0) in
     record {
-      answer = answer-is rows c.args.at c.index-mut.result.now c.book.new.self lt c.index-mut.ensures.value (λ a. booking_answer a c.args.currency c.args.booking) c.book.result c.book.ensures.answer;
-      after = rows-after rows c.args.at c.index-mut.result.now c.book.new.self lt c.index-mut.ensures.value (change_figures (booking_change c.args.booking) c.args.currency) (meaning book) refl c.book.result c.book.ensures.after;
+      answer = answer-is rows c.args.at c.index_mut.result.now c.book.new.self lt c.index_mut.ensures.value (λ a. booking_answer a c.args.currency c.args.booking) c.book.result c.book.ensures.answer;
+      after = rows-after rows c.args.at c.index_mut.result.now c.book.new.self lt c.index_mut.ensures.value (change_figures (booking_change c.args.booking) c.args.currency) (meaning book) refl c.book.result c.book.ensures.after;
       valued = refl;
     }

@@ -1,13 +1,13 @@
 use Rattle.book.proofs.book.Book.call_back.Goals as goal
 
-pub returns-in-err-callback : goal.returns-in-err-callback
-returns-in-err-callback g c = ?
+pub returns-in_err-callback : goal.returns-in_err-callback
+returns-in_err-callback g c = ?
 
-pub book-at-requires : goal.book-at-requires
-book-at-requires g c = ?
+pub book_at-requires : goal.book_at-requires
+book_at-requires g c = ?
 
-pub returns-in-err-book-at : goal.returns-in-err-book-at
-returns-in-err-book-at g c = ?
+pub returns-in_err-book_at : goal.returns-in_err-book_at
+returns-in_err-book_at g c = ?
 
 pub returns : goal.returns
 returns g c = ?

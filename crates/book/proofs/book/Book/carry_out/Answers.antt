@@ -10,5 +10,5 @@ returns-in-Opening g c =
     let v = valuation_of g.V.Valuation.counts g.V.Valuation.admitted in
     let s = meaning c.args.self.now in
     let is = sym (ap ordered c.in-Opening.is) in
-    let done = c.open-account.ensures in
+    let done = c.open_account.ensures in
     record { answer = done.answer ∙ ap (refused v s) is; after = done.after ∙ ap (step v s) is; valued = done.valued }

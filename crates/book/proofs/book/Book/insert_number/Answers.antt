@@ -14,17 +14,17 @@ unreachable-requires g c = omega (arith, c.in-Err.ensures.full, numbers-left c.a
 
 pub insert-requires-2 : goal.insert-requires-2
 insert-requires-2 g c =
-    omega (arith, c.insertion-point-at.ensures.within, c.as-slice.ensures.len, optimizations-length c.args.self.now, c.args.self.now.optimizations.ok.0)
+    omega (arith, c.insertion_point-at.ensures.within, c.as_slice.ensures.len, optimizations-length c.args.self.now, c.args.self.now.optimizations.ok.0)
 
-pub invariant-of-self : goal.invariant-of-self
-invariant-of-self g c =
+pub invariant_of-self : goal.invariant_of-self
+invariant_of-self g c =
     let b = c.args.self.now in
     let left = numbers-left b c.requires.room in
-    let put = number_fits b c.args.number c.as-slice.result.now c.insertion-point-at.result c.as-slice.ensures.value c.insertion-point-at.ensures.within c.insertion-point-at.ensures.point c.requires.absent in
-    let items : vec_items c.insert.new.self ≡ insert (vec_items b.numbers) c.insertion-point-at.result c.args.number = c.in-Ok.ensures.items in
+    let put = number_fits b c.args.number c.as_slice.result.now c.insertion_point-at.result c.as_slice.ensures.value c.insertion_point-at.ensures.within c.insertion_point-at.ensures.point c.requires.absent in
+    let items : vec_items c.insert.new.self ≡ insert (vec_items b.numbers) c.insertion_point-at.result c.args.number = c.in-Ok.ensures.items in
     let space : vec_len b.optimizations < vec_capacity b.optimizations = omega (arith, left, b.broad, optimizations-length b, b.optimizations.ok.0) in
     let done = c.insert-2.ensures.succeeds space in
-    let rows : vec_items c.insert-2.new.self ≡ insert (vec_items b.optimizations) c.insertion-point-at.result (new_number c.args.number) = simp done at c.insert-2.ensures.items in (
+    let rows : vec_items c.insert-2.new.self ≡ insert (vec_items b.optimizations) c.insertion_point-at.result (new_number c.args.number) = simp done at c.insert-2.ensures.items in (
       b.coded,
       (
         b.rising,
@@ -47,5 +47,5 @@ invariant-of-self g c =
 pub returns : goal.returns
 returns g c =
     let b = c.args.self.now in
-    let put = number_fits b c.args.number c.as-slice.result.now c.insertion-point-at.result c.as-slice.ensures.value c.insertion-point-at.ensures.within c.insertion-point-at.ensures.point c.requires.absent in
+    let put = number_fits b c.args.number c.as_slice.result.now c.insertion_point-at.result c.as_slice.ensures.value c.insertion_point-at.ensures.within c.insertion_point-at.ensures.point c.requires.absent in
     record { after = ap (λ optimizations. with_accounts (meaning b) (meaning b).accounts optimizations) (c.in-Ok-insert.ensures.items ∙ put.lies); valued = refl }

@@ -9,5 +9,5 @@ pub returns : goal.returns
 returns g c =
     let numbers = vec_items c.args.self.now.numbers in
     let up : T (ascending nat_cmp numbers) = subst T (sym c.args.self.now.climbing) tt in
-    c.is-some.ensures ∙ number-placed (vec_items c.args.self.now.optimizations) numbers c.args.number c.find.result c.args.self.now.numbered
-    (simp c.as-slice.ensures.value at c.find.ensures.answer nat_cmp_total up)
+    c.is_some.ensures ∙ number-placed (vec_items c.args.self.now.optimizations) numbers c.args.number c.find.result c.args.self.now.numbered
+    (simp c.as_slice.ensures.value at c.find.ensures.answer nat_cmp_total up)

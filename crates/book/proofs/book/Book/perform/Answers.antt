@@ -6,10 +6,10 @@ use Rattle.book.proofs.book.Book.perform.Goals as goal
 
 pub returns : goal.returns
 returns g c =
-    let done = c.carry-out.ensures in
+    let done = c.carry_out.ensures in
     record {
       answer = done.answer;
       after = done.after;
       valued = done.valued;
-      law = every_call (valuation_of g.V.Valuation.counts g.V.Valuation.admitted) (meaning c.args.self.now) (meaning c.carry-out.new.self) (ordered c.args.order) g.met.V.Valuation.lawful done.after;
+      law = every_call (valuation_of g.V.Valuation.counts g.V.Valuation.admitted) (meaning c.args.self.now) (meaning c.carry_out.new.self) (ordered c.args.order) g.met.V.Valuation.lawful done.after;
     }

@@ -9,4 +9,4 @@ returns g c =
     let codes = vec_items c.args.self.now.codes in
     let up : T (ascending code_order.cmp codes) = subst T (sym c.args.self.now.rising) tt in
     place-lies (vec_items c.args.self.now.accounts.rows) codes c.args.code c.find.result c.args.self.now.coded
-    (simp c.as-slice.ensures.value at c.find.ensures.answer code_order up)
+    (simp c.as_slice.ensures.value at c.find.ensures.answer code_order up)

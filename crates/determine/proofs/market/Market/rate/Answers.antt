@@ -6,5 +6,5 @@ use Rattle.determine.proofs.market.Market.rate.Goals as goal
 pub returns : goal.returns
 returns c =
     let r = is-rate c.args.self.now.rates c.args.self.now.rated c.args.currency in
-    let e = c.rate-at.ensures in
+    let e = c.rate_at.ensures in
     record { answer = search rules; ranged = record { low = omega (arith, ints); high = omega (arith, ints) } }

@@ -5,5 +5,5 @@ use Rattle.processor.proofs.perform.Processor.perform.Goals as goal
 
 pub returns : goal.returns
 returns g c =
-    let told = c.perform-form.ensures in
-    record { answer = told.answer; after = told.after; admitted = performed (valuation_of g.V.Valuation.counts g.V.Valuation.admitted) (state_of c.args.self.now) c.args.line.now c.perform-form.result told.answer }
+    let told = c.perform_form.ensures in
+    record { answer = told.answer; after = told.after; admitted = performed (valuation_of g.V.Valuation.counts g.V.Valuation.admitted) (state_of c.args.self.now) c.args.line.now c.perform_form.result told.answer }

@@ -9,8 +9,8 @@ use Rattle.quotes.specs.Quoted.{rates_in}
 use Rattle.quotes.specs.Rates.{rate_of}
 use Rattle.quotes.proofs.quotes.Quotes.missing.Goals as goal
 
-pub returns-then-is-none : goal.returns-then-is-none
-returns-then-is-none c =
+pub returns-then-is_none : goal.returns-then-is_none
+returns-then-is_none c =
     let f : Currency → Bool = λ k. not (is_some (rate_of (rates_in c.args.self.now) k)) in
     let i = c.loop-currency.currency-index in
     let lacks : f (get_or currencies i Gbp) ≡ true = search rules in
