@@ -1,4 +1,4 @@
 //! The book in memory and its calls.
 #![tactic(auto)]
 pub mod book;
-pub mod order;
+pub use request::fault;

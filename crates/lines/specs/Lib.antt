@@ -1,3 +1,5 @@
 pub mod Faults
 pub mod Lines
 pub mod Entries
+pub mod Records
+pub mod Admissions

@@ -1,3 +1,0 @@
-pub mod FieldLaws
-pub mod AdmissionLaws
-pub mod Unbarred
