@@ -15,12 +15,16 @@ pub record Ceilings (f : Figures) (rate standing amount : ℤ) : Type 0 where
   pub stood : amount ≤ℤ standing_amount f
   pub worth : (amount *ℤ rate) ≤ℤ standing
 
-pub ceilings-say : (f : Figures) (rate standing amount : ℤ) → may_call_back f rate standing amount ≡ true → Ceilings f rate standing amount
-unfolding may_call_back is_worth_at_most
-ceilings-say f rate standing amount e =
+-- of the three tests themselves
+pub ceilings-tell : (f : Figures) (rate standing amount : ℤ) → (le_z amount (free_cash f) && le_z amount (standing_amount f) && le_z (amount *ℤ rate) standing) ≡ true → Ceilings f rate standing amount
+ceilings-tell f rate standing amount e =
     let two = and_parts (le_z amount _ && le_z amount (standing_amount f)) (le_z (amount *ℤ rate) standing) e in
     let one = and_parts (le_z amount (free_cash f)) (le_z amount (standing_amount f)) two.0 in
     record { free = le_test _ _ one.0; stood = le_test _ _ one.1; worth = le_test _ _ two.1 }
+
+pub ceilings-say : (f : Figures) (rate standing amount : ℤ) → may_call_back f rate standing amount ≡ true → Ceilings f rate standing amount
+unfolding may_call_back is_worth_at_most
+ceilings-say = ceilings-tell
 
 -- the product of two numbers fits twice their bits
 pub product_wide : (a b : ℤ) → SFits w64 a → SFits w64 b → SFits w128 (a *ℤ b)

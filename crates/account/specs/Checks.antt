@@ -14,7 +14,7 @@ abbrev pub range_answer : Bool → Option Code → Currency → Result Unit Acco
 range_answer inside code currency = cond inside (Ok tt) (Err (out_of_range code (Some currency)))
 
 abbrev pub rate_answer : Currency → ℤ → Result Unit AccountFault
-rate_answer currency rate = range_answer (within rate_range rate) None currency
+rate_answer currency rate = cond (within rate_range rate) (Ok tt) (Err (out_of_range None (Some currency)))
 
 abbrev pub status_answer : Currency → ℤ → Result Status AccountFault
 status_answer currency flag = ok_or (status_of flag) (out_of_range None (Some currency))

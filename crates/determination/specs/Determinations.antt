@@ -53,7 +53,7 @@ due_in a c = due a.level (figures_in a c)
 
 -- the share in the net payment; 0 where the currency is shut
 abbrev pub share : Valuation → Market → AccountState → Currency → ℤ
-share v m a c = cond (m.is_open c) ((due_in a c +ℤ call v m a c) -ℤ repayment v m a c) (pos 0)
+share v m a c = cond (m.is_open c) ((due a.level (figures_in a c) +ℤ call v m a c) -ℤ repayment v m a c) (pos 0)
 
 unfoldable pub determination : Valuation → Market → AccountState → Determination
 determination v m a = record {

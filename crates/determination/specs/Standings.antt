@@ -1,10 +1,10 @@
 -- Where an account stands, and what may be called back from it.
-use Rattle.std.specs.Prelude.{Bool, ℤ}
+use Rattle.std.specs.Prelude.{Bool, ◌&&◌, ℤ, ◌-ℤ◌, ◌*ℤ◌, int_le}
 use Rattle.money.specs.declared.currency.Currency.{Currency}
 use Rattle.money.specs.Currencies.{currencies}
 use Rattle.account.specs.declared.account.AccountState.{AccountState}
 use Rattle.account.specs.Accounts.{figures_in}
-use Rattle.account.specs.Amounts.{standing_amount, may_call_back}
+use Rattle.account.specs.Amounts.{due_to_house, standing_amount}
 use Rattle.determination.specs.Valuations.{Valuation, Market, worth}
 
 abbrev pub standing_amount_in : AccountState → Currency → ℤ
@@ -14,6 +14,10 @@ standing_amount_in a c = standing_amount (figures_in a c)
 unfoldable pub standing : Valuation → Market → AccountState → ℤ
 standing v m a = worth v m a.base (standing_amount_in a) currencies
 
--- a callback is within the three ceilings, by the rate of its currency and the standing
+-- the three ceilings of a callback: cash above the limit that is not due to the house, the amount that the account
+-- stands on in that currency, and the standing
 abbrev pub within_ceilings : Valuation → Market → AccountState → Currency → ℤ → Bool
-within_ceilings v m a c w = may_call_back (figures_in a c) (m.rate c) (standing v m a) w
+within_ceilings v m a c w =
+    int_le w (((figures_in a c).cash -ℤ (figures_in a c).limit) -ℤ due_to_house (figures_in a c))
+    && int_le w (standing_amount_in a c)
+    && int_le (w *ℤ m.rate c) (standing v m a)

@@ -17,7 +17,7 @@ use Rattle.account.specs.Amounts.{due_to_house}
 use Rattle.account.specs.Bookings.{with_limits, with_margin, change_figures, deposit_booked, settlement_booked, callback_booked}
 use Rattle.account.specs.Priorities.{names_each_once, named, priority_of}
 use Rattle.account.specs.Terms.{level_of, setting_of}
-use Rattle.account.proofs.Ceilings.{ceilings-say}
+use Rattle.account.proofs.Ceilings.{ceilings-tell}
 use Rattle.account.proofs.Lists.{every_set}
 use Rattle.account.proofs.Ranges.{within-says}
 use Rattle.account.proofs.SoundAccounts.{figures-ranged, sound-with, sound-new}
@@ -205,7 +205,7 @@ granted v s code currency w e =
       λ a is.
           let found : held_under s (code_of code) ≡ Some a = ap (held_under s) n.0.is_code ∙ is in
           let within : within_ceilings v (market_of s) a n.0.unit w ≡ true = (λ i. is_within_ceilings v s (sym found i) (sym n.0.is_currency i) w) ∙ passes in
-          let c = ceilings-say (figures_in a n.0.unit) ((market_of s).rate n.0.unit) (standing v (market_of s) a) w within in
+          let c = ceilings-tell (figures_in a n.0.unit) ((market_of s).rate n.0.unit) (standing v (market_of s) a) w within in
           record {
             least = (within-says payment_range w (is_within payment_range w range.0)).0;
             free = c.free;

@@ -4,7 +4,7 @@ use Rattle.std.specs.Int.Signed.{lt_z}
 use Rattle.std.specs.Option.{unwrap_or}
 use Rattle.std.specs.Str.{bytes_eq}
 use Rattle.money.specs.declared.cause.AccountCause.TheVariants.{OutOfRange, PastBound, PastCeiling}
-use Rattle.money.specs.declared.cause.BookCause.TheVariants.{RunOpen, CodeForm, CodeHeld, CodeAbsent, CurrencyUnknown, BaseNotAdmitted, RateMissing, Full, Stopped}
+use Rattle.money.specs.declared.cause.BookCause.TheVariants.{RunOpen, CodeForm, CodeHeld, CodeAbsent, CurrencyUnknown, OptimizationNumber, LevelOrSetting, PriorityForm, BaseNotAdmitted, RateMissing, Full, Stopped}
 use Rattle.money.specs.declared.cause.Cause.TheVariants.{Book, Account}
 use Rattle.money.specs.declared.code.Code.{Code}
 use Rattle.money.specs.declared.currency.Currency.{Currency}
@@ -13,7 +13,7 @@ use Rattle.money.specs.Codes.{bytes_of, code_of}
 use Rattle.money.specs.CodeOrders.{is_below}
 use Rattle.money.specs.Currencies.{currency_of, place}
 use Rattle.money.specs.Options.{first_of}
-use Rattle.money.specs.Ranges.{bound, rate_range, figure_range, settlement_range, payment_range}
+use Rattle.money.specs.Ranges.{bound, rate_range, figure_range, settlement_range, payment_range, optimization_range}
 use Rattle.money.specs.Refusals.{Told, tells}
 use Rattle.money.specs.Statuses.{status_of}
 use Rattle.account.specs.declared.account.AccountState.{AccountState}
@@ -23,7 +23,6 @@ use Rattle.account.specs.Bookings.{change_figures}
 use Rattle.account.specs.Priorities.{priority_of}
 use Rattle.account.specs.Terms.{level_of, setting_of}
 use Rattle.request.specs.Causes.{first_told, is_none, outside, tells_of, tells_currency}
-use Rattle.request.specs.Openings.{terms_faults}
 use Rattle.determination.specs.Standings.{within_ceilings}
 use Rattle.determination.specs.Valuations.{Valuation}
 use Rattle.history.specs.declared.optimization.OptimizationAccount.{OptimizationAccount}
@@ -127,9 +126,12 @@ opening_refusal v s code number base level setting priority = first_told (
     (is_running s, tells_of code base (Book RunOpen))
     ∷ (is_none (code_of code), tells_of code base (Book CodeForm))
     ∷ (is_held s code, tells_of code base (Book CodeHeld))
-    ∷ (terms_faults (code_of code) number (currency_of base) level setting priority
-    ++ ((not (admits_base v (currency_of base)), tells_of code base (Book BaseNotAdmitted))
-    ∷ (is_full s (unsigned_abs number), tells_of code base (Book Full)) ∷ [])))
+    ∷ (is_none (currency_of base), tells_of code base (Book CurrencyUnknown))
+    ∷ (outside optimization_range number, tells_of code base (Book OptimizationNumber))
+    ∷ (is_none (level_of level) || is_none (setting_of setting), tells_of code base (Book LevelOrSetting))
+    ∷ (is_none (priority_of priority), tells_of code base (Book PriorityForm))
+    ∷ (not (admits_base v (currency_of base)), tells_of code base (Book BaseNotAdmitted))
+    ∷ (is_full s (unsigned_abs number), tells_of code base (Book Full)) ∷ [])
 
 -- an account is put before the first with a higher code
 abbrev pub insert_account : AccountState → List AccountState → List AccountState

@@ -8,7 +8,7 @@ use Rattle.money.specs.declared.code.Code.{Code}
 use Rattle.money.specs.declared.currency.Currency.{Currency}
 use Rattle.money.specs.Currencies.{currencies, currency_of, is_same}
 use Rattle.money.specs.Options.{first_of, before}
-use Rattle.money.specs.Ranges.{optimization_range}
+use Rattle.money.specs.Ranges.{bound, optimization_range}
 use Rattle.money.specs.Refusals.{Told, tells}
 use Rattle.account.specs.declared.account.AccountState.{AccountState}
 use Rattle.account.specs.declared.account.Figures.{Figures}
@@ -16,7 +16,7 @@ use Rattle.account.specs.declared.terms.Level.{Level}
 use Rattle.account.specs.Accounts.{figures_in, with_all_figures}
 use Rattle.determination.specs.declared.determination.Determination.{Determination}
 use Rattle.determination.specs.Balances.{held_cash}
-use Rattle.determination.specs.Determinations.{due, determination, amount_in, past_bound}
+use Rattle.determination.specs.Determinations.{due, determination, amount_in, cash_with_call}
 use Rattle.determination.specs.Valuations.{Valuation, Market}
 use Rattle.history.specs.declared.optimization.OptimizationAccount.{OptimizationAccount}
 use Rattle.history.specs.declared.run.OpenRun.{OpenRun}
@@ -33,7 +33,7 @@ past_bound_or code (Some c) others = Some (code, c)
 
 abbrev pub first_past_bound : Valuation → Market → List AccountState → Option (Code × Currency)
 first_past_bound v m [] = None
-first_past_bound v m (a ∷ more) = past_bound_or a.code (past_bound v m a) (first_past_bound v m more)
+first_past_bound v m (a ∷ more) = past_bound_or a.code (first_of (λ c. int_lt bound (cash_with_call v m a c)) currencies) (first_past_bound v m more)
 
 abbrev pub code_in : Option (Code × Currency) → Option Code
 code_in None = None
