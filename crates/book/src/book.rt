@@ -8,12 +8,12 @@ ghost use Rattle.history.specs.Steps.{unless};
 ghost use Rattle.money.specs.Currencies.{currency_of};
 ghost use Rattle.money.specs.Refusals.{refusal_of};
 
-use request::fault::BookFault;
 use account::check::{check_rate, read_status};
 use history::run::OpenRun;
 use money::cause::BookCause;
 use money::currency::{COUNT, Currency};
 use money::status::Status;
+use request::fault::BookFault;
 
 /// A book of one member, with the valuation that it has for life.
 #[derive(Drop)]

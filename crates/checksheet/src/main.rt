@@ -1,5 +1,6 @@
 //! Checks the lines of the sheet on standard input, and performs none.
 #![tactic(auto)]
+
 use processor::check::check_sheet;
 use processor::print::LIMIT;
 use std::io::Read;

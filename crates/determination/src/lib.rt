@@ -1,4 +1,5 @@
 //! What one account pays or gets.
 #![tactic(auto)]
+
 pub mod determination;
 pub mod law;

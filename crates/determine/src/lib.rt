@@ -1,5 +1,6 @@
 //! What one account pays or gets, worked out.
 #![tactic(auto)]
+
 mod balance;
 mod calls;
 pub mod determine;

@@ -3,9 +3,9 @@ ghost use Rattle.std.specs.Prelude.{◌≡◌};
 ghost use Rattle.lines.specs.Faults.{told, of_book};
 ghost use Rattle.money.specs.Refusals.{told as toldBy};
 
-use request::fault::BookFault;
 use money::cause::Cause;
 use money::refusal::Refusal;
+use request::fault::BookFault;
 
 /// Why a line is refused.
 #[derive(Clone, Copy)]

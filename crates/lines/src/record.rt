@@ -13,10 +13,10 @@ use crate::entry::Entry;
 use crate::fault::SheetFault;
 use crate::form::form;
 use account::check::{check_rate, read_status};
-use request::fault::BookFault;
 use money::cause::BookCause;
 use money::currency::Currency;
 use money::status::Status;
+use request::fault::BookFault;
 use std::alloc::{AllocError, Global};
 use std::fmt;
 

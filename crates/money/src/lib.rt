@@ -1,5 +1,6 @@
 //! Currencies, account codes, ranges of figures, and what a refusal tells.
 #![tactic(auto)]
+
 pub mod cause;
 pub mod code;
 pub mod currency;

@@ -1,5 +1,6 @@
 //! Performs the sheet on standard input, and prints what it did.
 #![tactic(auto)]
+
 use processor::perform::transcript;
 use processor::print::LIMIT;
 use std::io::Read;

@@ -1,5 +1,6 @@
 //! Performs each sheet that is named as an argument on a book of its own, and prints its name and what it did.
 #![tactic(auto)]
+
 use processor::perform::transcript;
 use std::{env, fs};
 use valuation::flat_charge::FlatCharge;

@@ -1,5 +1,6 @@
 //! Sheets, line by line: performed on a book, or only checked.
 #![tactic(auto)]
+
 pub mod check;
 pub mod perform;
 pub mod print;

@@ -15,10 +15,10 @@ ghost use Rattle.text.specs.Rows.{rows};
 
 use crate::print::{print_refusal, sheet_of};
 use book::book::Book;
-use request::fault::BookFault;
 use lines::entry::Entry;
 use lines::fault::SheetFault;
 use lines::form::form;
+use request::fault::BookFault;
 use std::alloc::{AllocError, Global};
 use text::row::first_line;
 use valuation::valuation::Valuation;

@@ -1,5 +1,6 @@
 //! What a call of the book is about, and the book layer's fault.
 #![tactic(auto)]
+
 pub mod fault;
 pub mod opening;
 pub mod subject;

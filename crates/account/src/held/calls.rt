@@ -169,8 +169,8 @@ impl Account {
         if !self.grants(currency, amount, rate, standing) {
             return Err(self.fault(currency, AccountCause::PastCeiling));
         }
-        let cash = self.cash_less(currency, amount);
-        self.put_cash(currency, cash);
+        let left = self.cash_less(currency, amount);
+        self.put_cash(currency, left);
         Ok(())
     }
 
