@@ -1,9 +1,8 @@
 -- What the ranges of figures say, in orders of numbers.
-use Rattle.std.proofs.Common.{◌≡◌, Bool, true, false, ◌&&◌, ℤ, pos, neg_ℤ, ◌≤ℤ◌, ◌<ℤ◌, refl, arith}
-use lib.Signed.{le_z, lt_z}
+use Rattle.std.proofs.Common.{◌≡◌, Bool, true, ◌&&◌, ℤ, ◌≤ℤ◌, arith}
+use lib.Signed.{le_z}
 use Rattle.std.proofs.lemmas.Int.{ints}
 use Rattle.std.proofs.lemmas.Bool.{and_parts, and_from}
-use Rattle.std.proofs.lemmas.Bool.Decides.{nat_tests}
 use Rattle.money.specs.declared.range.Range.{Range}
 use Rattle.money.specs.Ranges.{within, figure_range, settlement_range}
 use Rattle.account.specs.declared.account.Figures.{Figures}

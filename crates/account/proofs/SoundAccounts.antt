@@ -1,5 +1,5 @@
 -- Accounts stay as they can be.
-use Rattle.std.proofs.Common.{◌≡◌, ℕ, ◌<◌, Bool, true, ◌&&◌, eqb, ltb, List, map, length, get_or, set, sym, refl, ap, ◌∙◌, arith, length-set, ltb-true, eq-eqb, eqb-true}
+use Rattle.std.proofs.Common.{◌≡◌, ℕ, true, ◌&&◌, eqb, List, length, refl, ◌∙◌, arith, length-set, eq-eqb, eqb-true}
 use Rattle.std.proofs.lemmas.Bool.{and_parts, and_from}
 use Rattle.money.specs.declared.code.Code.{Code}
 use Rattle.money.specs.declared.currency.Currency.{Currency}
@@ -10,7 +10,7 @@ use Rattle.account.specs.declared.account.AccountState.{AccountState}
 use Rattle.account.specs.declared.account.Figures.{Figures}
 use Rattle.account.specs.declared.terms.DebitSetting.{DebitSetting}
 use Rattle.account.specs.declared.terms.Level.{Level}
-use Rattle.account.specs.Accounts.{no_figures, figures_in, with_all_figures, with_figures, new_account, in_range, Ranged, sound}
+use Rattle.account.specs.Accounts.{no_figures, figures_in, with_figures, new_account, in_range, Ranged, sound}
 use Rattle.account.specs.Priorities.{names_each_once}
 use Rattle.account.proofs.Lists.{every-at-place, every_set}
 use Rattle.account.proofs.Ranges.{in-range-says, in-range-from}

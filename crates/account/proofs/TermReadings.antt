@@ -1,5 +1,5 @@
 -- A level and a setting are read from the number that is written of them.
-use Rattle.std.proofs.Common.{◌≡◌, ℕ, Bool, true, false, cond, eqb, ℤ, pos, negsuc, Some, None, Option, sym, refl, ap, ◌∙◌, arith, eqb-true}
+use Rattle.std.proofs.Common.{◌≡◌, ℕ, Bool, true, false, cond, eqb, ℤ, pos, negsuc, Some, None, sym, refl, ap, ◌∙◌, arith, eqb-true}
 use Rattle.account.specs.declared.terms.DebitSetting.{DebitSetting}
 use Rattle.account.specs.declared.terms.DebitSetting.TheVariants.{MarginCurrency, BaseCurrency}
 use Rattle.account.specs.declared.terms.Level.{Level}

@@ -1,6 +1,5 @@
 -- What a book in memory means. It holds no accounts yet.
 use Rattle.std.specs.Prelude.{Bool, true, false, [], Some, None, Ok, Err, Option, Result}
-use Rattle.money.specs.declared.cause.BookCause.{BookCause}
 use Rattle.money.specs.declared.cause.BookCause.TheVariants.{RunOpen, CurrencyUnknown}
 use Rattle.money.specs.declared.currency.Currency.{Currency}
 use Rattle.history.specs.States.{State, is_running}

@@ -1,10 +1,10 @@
 -- How often a list names a currency.
 use Rattle.std.proofs.Common.{◌≡◌, ◌<◌, ◌≤◌, Bool, true, false, eqb, List, ◌∷◌, sym, refl, ap, ◌∙◌, arith}
-use Rattle.std.proofs.lemmas.Bool.{both_ways, eq-eqb, eqb-true, ne_eqb}
+use Rattle.std.proofs.lemmas.Bool.{both_ways, eqb-true}
 use Rattle.std.proofs.lemmas.Bool.Decides.{nat_tests}
 use Rattle.money.specs.declared.currency.Currency.{Currency}
-use Rattle.money.specs.Currencies.{currencies, place, is_same}
-use Rattle.money.proofs.EachCurrency.{each, same-currency, same-itself, different}
+use Rattle.money.specs.Currencies.{currencies, is_same}
+use Rattle.money.proofs.EachCurrency.{each, same-itself, different}
 use Rattle.account.specs.Priorities.{times, names_each_once}
 
 -- a currency that passes a test is not one that fails it

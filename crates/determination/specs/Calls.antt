@@ -1,5 +1,5 @@
 -- Calls and repayments, from the balances x of an account, its priority and the points that are short or over.
-use Rattle.std.specs.Prelude.{cond, List, [], ◌∷◌, ℤ, pos, ◌+ℤ◌, Some, None, Option}
+use Rattle.std.specs.Prelude.{cond, List, ◌∷◌, ℤ, pos, ◌+ℤ◌, Some, None, Option}
 use Rattle.std.specs.Int.{int_min}
 use Rattle.money.specs.declared.currency.Currency.{Currency}
 use Rattle.money.specs.Currencies.{is_same}

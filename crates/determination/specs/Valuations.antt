@@ -1,7 +1,6 @@
 -- What amounts are worth.
 use Rattle.std.specs.Prelude.{Bool, List, [], ◌∷◌, ℤ, pos, ◌+ℤ◌, ◌*ℤ◌}
 use Rattle.money.specs.declared.currency.Currency.{Currency}
-use Rattle.money.specs.Currencies.{currencies}
 use Rattle.valuation.specs.Laws.{Lawful}
 
 -- a valuation by its two meanings: what an amount counts under a base, and which bases are admitted

@@ -1,18 +1,18 @@
 -- Lists of an amount for each currency, in book order.
-use Rattle.std.proofs.Common.{◌≡◌, ℕ, ◌+◌, ◌<◌, Bool, true, false, cond, ◌≢◌, List, [], ◌∷◌, map, length, get_or, drop, set, replicate, ℤ, pos, sym, refl, ap, ◌∙◌, arith, length-set}
+use Rattle.std.proofs.Common.{◌≡◌, ℕ, ◌+◌, ◌<◌, Bool, true, false, cond, List, [], ◌∷◌, map, length, get_or, drop, set, replicate, ℤ, pos, sym, refl, ap, ◌∙◌, arith, length-set}
 use Rattle.std.specs.List.{range_with_len}
 use Rattle.std.proofs.lemmas.List.FromFn.{get_or-range_with_len}
 use Rattle.std.proofs.lemmas.List.{drop_more, get_or-map, get_or-set_same, get_or-set_other, ext_get_or}
-use Rattle.std.proofs.lemmas.Bool.{cond-true, cond-false, eqb-true, eqb-false, both_ways}
+use Rattle.std.proofs.lemmas.Bool.{cond-true, cond-false, eqb-true, eqb-false}
 use Rattle.std.proofs.lemmas.Bool.Decides.{nat_tests}
 use Rattle.money.specs.declared.currency.Currency.{Currency}
 use Rattle.money.specs.declared.currency.Currency.TheVariants.{Gbp}
 use Rattle.money.specs.Currencies.{currencies, place, is_same}
-use Rattle.money.proofs.EachCurrency.{same-currency, same-itself, place-within, at_place}
+use Rattle.money.proofs.EachCurrency.{same-currency, place-within}
 use Rattle.account.specs.Priorities.{times}
 use Rattle.determination.specs.Determinations.{amount_in}
 use Rattle.determination.specs.Walks.{rest_after, rest_at, rest_at_end, taken}
-use Rattle.determination.proofs.Namings.{Distinct, EachOnce, named-later}
+use Rattle.determination.proofs.Namings.{EachOnce, named-later}
 
 -- at each place stands the currency of that place
 pub place_at : (k : ℕ) (d : Currency) → k < length currencies → place (get_or currencies k d) ≡ k

@@ -1,29 +1,27 @@
 -- A callback that is granted leaves the account at zero or above, with its limit covered.
-use Rattle.std.proofs.Common.{◌≡◌, ℕ, Bool, true, false, cond, List, ℤ, pos, ◌+ℤ◌, ◌-ℤ◌, ◌*ℤ◌, ◌≤ℤ◌, Some, None, Option, sym, refl, ap, ◌∙◌, subst, arith, ne_eqb}
+use Rattle.std.proofs.Common.{◌≡◌, ℕ, true, false, cond, List, ℤ, pos, ◌+ℤ◌, ◌-ℤ◌, ◌*ℤ◌, ◌≤ℤ◌, Some, None, Option, sym, refl, ap, ◌∙◌, subst, arith, ne_eqb}
 use borrow.Author.Tests.{eqb-false}
 use Rattle.std.proofs.lemmas.Int.{ints, clamps}
 use Rattle.std.specs.Option.{option_map}
-use Rattle.money.specs.declared.code.Code.{Code}
 use Rattle.money.specs.declared.currency.Currency.{Currency}
-use Rattle.money.specs.Codes.{code_of}
-use Rattle.money.specs.Currencies.{currencies, currency_of, place, is_same}
+use Rattle.money.specs.Currencies.{place, is_same}
 use Rattle.money.specs.Options.{first_of}
 use Rattle.money.specs.Ranges.{rate_range}
 use Rattle.money.proofs.EachCurrency.{same-itself}
 use Rattle.account.specs.declared.account.AccountState.{AccountState}
 use Rattle.account.specs.declared.account.Figures.{Figures}
-use Rattle.account.specs.Accounts.{figures_in, with_figures, has_code, sound, Ranged}
+use Rattle.account.specs.Accounts.{figures_in, has_code, sound, Ranged}
 use Rattle.account.specs.Amounts.{standing_amount, due_to_house}
 use Rattle.account.specs.Bookings.{callback_booked, change_figures}
 use Rattle.account.proofs.Ranges.{within-says}
 use Rattle.account.proofs.SoundAccounts.{figures-ranged}
 use Rattle.valuation.specs.Laws.{InRange}
 use Rattle.determination.specs.Standings.{standing_amount_in, standing}
-use Rattle.determination.specs.Valuations.{Valuation, IsLawful, Market, worth}
+use Rattle.determination.specs.Valuations.{Valuation, IsLawful}
 use Rattle.determination.proofs.Points.{Valued, points, taking-costs}
 use Rattle.determination.proofs.Sums.{sum-one-less}
 use Rattle.history.specs.Bookings.{booked, change_first, callback_refusal}
-use Rattle.history.specs.Laws.{CallbackLaw, Stands, CoversLimit}
+use Rattle.history.specs.Laws.{CallbackLaw, CoversLimit}
 use Rattle.history.specs.States.{State, market_of, missing_rate, account_with}
 use Rattle.history.proofs.Concluding.{rated}
 use Rattle.history.proofs.Found.{found-every, found-changed}

@@ -1,11 +1,9 @@
 -- Cut-offs and conclusions: what they leave of each account, and that they keep the invariant.
-use Rattle.std.proofs.Common.{◌≡◌, ℕ, zero, suc, ◌<◌, ◌≤◌, Bool, true, false, cond, not, ◌&&◌, leb, List, [], ◌∷◌, map, length, get_or, ℤ, pos, negsuc, ◌+ℤ◌, ◌-ℤ◌, ◌≤ℤ◌, ◌<ℤ◌, is_some, Some, None, Option, unwrap_or, sym, refl, ap, ◌∙◌, subst, arith}
+use Rattle.std.proofs.Common.{◌≡◌, ℕ, zero, suc, Bool, true, false, not, ◌&&◌, leb, List, [], ◌∷◌, ℤ, pos, negsuc, ◌+ℤ◌, ◌≤ℤ◌, ◌<ℤ◌, is_some, Some, None, Option, unwrap_or, sym, refl, subst, arith}
 use lib.Signed.{lt_z}
 use Rattle.std.proofs.lemmas.Int.{ints, clamps}
 use Rattle.std.proofs.lemmas.Bool.{and_parts}
 use Rattle.std.specs.Int.{int_max}
-use Rattle.std.specs.Option.{option_map}
-use Rattle.std.specs.List.{slice_get}
 use Rattle.money.specs.declared.code.Code.{Code}
 use Rattle.money.specs.declared.currency.Currency.{Currency}
 use Rattle.money.specs.Currencies.{currencies, place}
@@ -16,26 +14,24 @@ use Rattle.account.specs.declared.account.AccountState.{AccountState}
 use Rattle.account.specs.declared.account.Figures.{Figures}
 use Rattle.account.specs.declared.terms.Level.{Level}
 use Rattle.account.specs.declared.terms.Level.TheVariants.{MarginRequirement, CashOptimization}
-use Rattle.account.specs.Accounts.{no_figures, figures_in, has_code, in_range, sound, Ranged}
+use Rattle.account.specs.Accounts.{figures_in, has_code, in_range, sound, Ranged}
 use Rattle.account.proofs.Lists.{every-at-place}
 use Rattle.account.proofs.Ranges.{in-range-from}
 use Rattle.account.proofs.SoundAccounts.{sound-says, sound-from, figures-ranged}
-use Rattle.determination.specs.declared.determination.Determination.{Determination}
 use Rattle.determination.specs.Balances.{held_cash, room}
 use Rattle.determination.specs.Determinations.{call, repayment, determination, amount_in, cash_with_call}
 use Rattle.determination.specs.Laws.{Determinable, Payable, DeterminationLaw, EveryDetermination}
 use Rattle.determination.specs.Valuations.{Valuation, IsLawful, Market}
 use Rattle.history.specs.Calls.{FailedDebit, RunNumbers}
 use Rattle.request.specs.Causes.{is_none}
-use Rattle.history.specs.Histories.{determined, is_carried_out}
-use Rattle.history.specs.Runs.{past_bound_or, first_past_bound, cut_off_refusal, with_run, entries, is_of_run, conclusion_refusal, concluded_figures, concluded_account, concluded_accounts, with_conclusion}
+use Rattle.history.specs.Histories.{is_carried_out}
+use Rattle.history.specs.Runs.{past_bound_or, first_past_bound, cut_off_refusal, with_run, conclusion_refusal, concluded_figures, with_conclusion}
 use Rattle.history.specs.States.{State, is_running, rate_in, market_of, missing_rate, account_with}
-use Rattle.history.specs.declared.run.OpenRun.{OpenRun}
 use Rattle.history.proofs.Concluded.{concluded_by, call-determined, repayment-determined, concludes-open, accounts-concluded}
 use Rattle.history.proofs.Found.{found-every}
 use Rattle.history.proofs.Invariant.{Tied, Invariant}
 use Rattle.history.proofs.Lists.{every_map, every-and, every_of, none_passes}
-use Rattle.history.proofs.Tests.{none_told, not_there, not-not, both_ways}
+use Rattle.history.proofs.Tests.{none_told, not_there, both_ways}
 
 -- WHAT A RUN IS DETERMINED BY
 

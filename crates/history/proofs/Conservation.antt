@@ -1,5 +1,5 @@
 -- Cash less open settlement moves by what a call pays in.
-use Rattle.std.proofs.Common.{◌≡◌, ℕ, Bool, true, false, cond, not, List, [], ◌∷◌, ℤ, pos, ◌+ℤ◌, neg_ℤ, nat_abs, is_some, Some, None, Option, sym, refl, ap, ◌∙◌, subst, ap₂, arith}
+use Rattle.std.proofs.Common.{◌≡◌, ℕ, Bool, true, false, cond, List, [], ◌∷◌, ℤ, pos, ◌+ℤ◌, neg_ℤ, nat_abs, is_some, Some, None, Option, sym, refl, ap, ◌∙◌, subst, ap₂, arith}
 use Rattle.std.proofs.lemmas.Int.{ints}
 use Rattle.std.proofs.lemmas.Bool.{cond-true, cond-false}
 use Rattle.std.specs.Option.{option_map}
@@ -9,7 +9,6 @@ use Rattle.money.specs.declared.currency.Currency.{Currency}
 use Rattle.money.specs.Codes.{bytes_of, code_of}
 use Rattle.money.specs.Currencies.{currency_of, is_same}
 use Rattle.money.specs.Options.{first_of, every}
-use Rattle.money.specs.Refusals.{Told}
 use Rattle.money.specs.Statuses.{status_of}
 use Rattle.money.proofs.EachCurrency.{same-currency}
 use Rattle.account.specs.declared.account.AccountState.{AccountState}
@@ -20,7 +19,7 @@ use Rattle.account.specs.Priorities.{priority_of}
 use Rattle.account.specs.Terms.{level_of, setting_of}
 use Rattle.determination.specs.Valuations.{Valuation}
 use Rattle.money.specs.CodeOrders.{is_below}
-use Rattle.history.specs.Bookings.{or_same, with_accounts, held_under, is_held, insert_account, figures_for, limits_faults, margin_faults, deposit_faults, settlement_faults, callback_faults, change_first, booked}
+use Rattle.history.specs.Bookings.{or_same, held_under, is_held, insert_account, figures_for, limits_faults, margin_faults, deposit_faults, settlement_faults, callback_faults, change_first, booked}
 use Rattle.history.specs.Calls.{Call, set_rate, set_holiday, open_account, set_limits, set_margin, deposit, settle, call_back, cut_off, conclude, ask_standing, FailedDebit, RunNumbers}
 use Rattle.request.specs.Causes.{is_none}
 use Rattle.history.specs.Histories.{determined, is_carried_out, is_code, amount_for, share_carried_out, paid_in}
@@ -33,7 +32,7 @@ use Rattle.history.proofs.Found.{found-every, none_found, found-changed, found-u
 use Rattle.history.proofs.Invariant.{Invariant}
 use Rattle.history.proofs.Named.{Named, named-says, booked-is}
 use Rattle.history.proofs.Places.{figures-with, new-figures, same_code, other-code}
-use Rattle.history.proofs.Tests.{none_told, not_there, not-not}
+use Rattle.history.proofs.Tests.{none_told, not_there}
 
 -- cash less open settlement of an account that may be absent, and of the account of a list that has a code
 abbrev position_for : Currency → Option AccountState → ℤ

@@ -1,5 +1,5 @@
 -- What every book that has a history behind it keeps, besides the law: what the proofs of the law go by.
-use Rattle.std.proofs.Common.{◌≡◌, Bool, true, cond, List, map, length, ℤ, Some, None, Option}
+use Rattle.std.proofs.Common.{◌≡◌, true, map, length, None}
 use Rattle.money.specs.Currencies.{currencies}
 use Rattle.money.specs.Options.{every}
 use Rattle.money.specs.Ranges.{fine_rate}

@@ -1,5 +1,5 @@
 -- Every call that changes rates, holidays or single accounts keeps the invariant.
-use Rattle.std.proofs.Common.{◌≡◌, ℕ, Bool, true, false, cond, not, ◌&&◌, ◌||◌, List, [], ◌∷◌, length, set, ℤ, pos, ◌+ℤ◌, ◌-ℤ◌, ◌*ℤ◌, nat_abs, ◌≤ℤ◌, is_some, Some, None, Option, sym, refl, ap, ◌∙◌, subst, arith, length-set}
+use Rattle.std.proofs.Common.{◌≡◌, ℕ, Bool, true, false, cond, not, ◌||◌, List, [], ◌∷◌, set, ℤ, pos, ◌+ℤ◌, ◌-ℤ◌, ◌*ℤ◌, nat_abs, ◌≤ℤ◌, is_some, Some, None, Option, sym, refl, ap, ◌∙◌, subst, arith, length-set}
 use Rattle.std.proofs.lemmas.Int.{ints, clamps}
 use Rattle.std.proofs.lemmas.Bool.{and_parts, and_from}
 use Rattle.money.specs.declared.currency.Currency.{Currency}
@@ -8,7 +8,6 @@ use Rattle.money.specs.Codes.{bytes_of, code_of}
 use Rattle.money.specs.Currencies.{currency_of, place}
 use Rattle.money.specs.Options.{every, before}
 use Rattle.money.specs.Ranges.{within, rate_range, figure_range, settlement_range, payment_range, optimization_range, fine_rate}
-use Rattle.money.specs.Refusals.{Told}
 use Rattle.money.specs.Statuses.{status_of}
 use Rattle.account.specs.declared.account.AccountState.{AccountState}
 use Rattle.account.specs.declared.account.Figures.{Figures}
@@ -25,7 +24,7 @@ use Rattle.determination.specs.Standings.{standing_amount_in, standing, within_c
 use Rattle.determination.specs.Valuations.{Valuation}
 use Rattle.history.specs.declared.optimization.OptimizationAccount.{OptimizationAccount}
 use Rattle.money.specs.CodeOrders.{is_below}
-use Rattle.history.specs.Bookings.{with_rates, with_statuses, with_accounts, or_same, rate_refusal, rate_set, holiday_refusal, holiday_set, held_under, is_held, is_full, admits_base, opening_refusal, insert_account, insert_number, opened, with_opened, figures_of, limits_faults, margin_faults, deposit_faults, settlement_faults, callback_faults, limits_refusal, margin_refusal, deposit_refusal, settlement_refusal, is_stopped, is_within_ceilings, callback_refusal, change_first, booked}
+use Rattle.history.specs.Bookings.{with_rates, with_statuses, with_accounts, rate_refusal, rate_set, holiday_refusal, holiday_set, held_under, is_held, admits_base, opening_refusal, insert_account, opened, with_opened, figures_of, limits_faults, margin_faults, deposit_faults, settlement_faults, callback_faults, limits_refusal, margin_refusal, deposit_refusal, settlement_refusal, is_stopped, is_within_ceilings, callback_refusal, booked}
 use Rattle.request.specs.Causes.{is_none, outside}
 use Rattle.history.specs.States.{State, is_running, market_of, missing_rate, account_with}
 use Rattle.history.proofs.Invariant.{Tied, Invariant}

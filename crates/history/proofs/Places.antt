@@ -1,19 +1,17 @@
 -- Figures by their place in book order, and accounts by their codes.
-use Rattle.std.proofs.Common.{◌≡◌, ◌<◌, Bool, true, false, cond, ◌&&◌, eqb, ltb, map, length, get_or, replicate, sym, refl, ap, ◌∙◌, subst}
+use Rattle.std.proofs.Common.{◌≡◌, ◌<◌, Bool, true, false, cond, length, get_or, replicate, sym, refl, ap, ◌∙◌, subst}
 use Rattle.std.proofs.lemmas.Slice.Eq.{bytes_eq-Decides}
 use Rattle.std.proofs.lemmas.List.{get_or-set_same, get_or-set_other, get_or-replicate}
-use Rattle.std.proofs.lemmas.Bool.{and_parts, eqb-true, eqb-false, ltb-true}
+use Rattle.std.proofs.lemmas.Bool.{eqb-false}
 use Rattle.std.specs.Str.{bytes_eq}
 use Rattle.money.specs.declared.code.Code.{Code}
 use Rattle.money.specs.declared.currency.Currency.{Currency}
 use Rattle.money.specs.Codes.{bytes_of, eight}
 use Rattle.money.specs.Currencies.{currencies, place, is_same}
-use Rattle.money.specs.Options.{every}
 use Rattle.money.proofs.EachCurrency.{place-within, same-currency}
 use Rattle.account.specs.declared.account.AccountState.{AccountState}
 use Rattle.account.specs.declared.account.Figures.{Figures}
-use Rattle.account.specs.Accounts.{no_figures, figures_in, with_figures, has_code, in_range, sound}
-use Rattle.account.specs.Priorities.{names_each_once}
+use Rattle.account.specs.Accounts.{no_figures, figures_in, with_figures, has_code, sound}
 use Rattle.account.proofs.SoundAccounts.{sound-says}
 
 -- FIGURES

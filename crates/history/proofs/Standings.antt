@@ -1,5 +1,5 @@
 -- Where accounts stand after a conclusion and after a callback.
-use Rattle.std.proofs.Common.{◌≡◌, ℕ, Bool, true, false, cond, not, ◌&&◌, ◌||◌, eqb, List, [], ◌∷◌, map, ℤ, pos, ◌+ℤ◌, ◌-ℤ◌, ◌*ℤ◌, nat_abs, ◌≤ℤ◌, ◌<ℤ◌, is_some, Some, None, Option, sym, refl, ap, ◌∙◌, subst, arith}
+use Rattle.std.proofs.Common.{◌≡◌, ℕ, Bool, true, false, cond, not, ◌||◌, eqb, List, [], ◌∷◌, ℤ, pos, ◌+ℤ◌, ◌-ℤ◌, ◌*ℤ◌, nat_abs, ◌≤ℤ◌, ◌<ℤ◌, is_some, Some, None, Option, sym, refl, ap, ◌∙◌, subst, arith}
 use lib.Signed.{lt_z}
 use Rattle.std.proofs.lemmas.Int.{ints, clamps}
 use Rattle.std.proofs.lemmas.Bool.{and_parts, and_from}
@@ -7,15 +7,14 @@ use Rattle.std.specs.Option.{option_map}
 use Rattle.money.specs.declared.code.Code.{Code}
 use Rattle.money.specs.declared.currency.Currency.{Currency}
 use Rattle.money.specs.Currencies.{currencies}
-use Rattle.money.specs.Options.{every, first_of}
+use Rattle.money.specs.Options.{first_of}
 use Rattle.account.specs.declared.account.AccountState.{AccountState}
 use Rattle.account.specs.declared.account.Figures.{Figures}
 use Rattle.account.specs.declared.terms.Level.{Level}
-use Rattle.account.specs.declared.terms.Level.TheVariants.{MarginRequirement, CashOptimization}
-use Rattle.account.specs.Accounts.{figures_in, has_code}
+use Rattle.account.specs.Accounts.{figures_in}
 use Rattle.account.specs.Amounts.{standing_amount}
-use Rattle.determination.specs.Balances.{balance, held_cash, room}
-use Rattle.determination.specs.Determinations.{balance_in, room_in, call, repayment}
+use Rattle.determination.specs.Balances.{balance, room}
+use Rattle.determination.specs.Determinations.{call, repayment}
 use Rattle.determination.specs.Laws.{EveryDetermination}
 use Rattle.determination.specs.Standings.{standing_amount_in, standing}
 use Rattle.determination.specs.Valuations.{Valuation, IsLawful, Market, worth}
@@ -23,11 +22,11 @@ use Rattle.determination.proofs.Sums.{sum_same}
 use Rattle.history.specs.Calls.{FailedDebit, RunNumbers}
 use Rattle.history.specs.Histories.{determined, is_carried_out}
 use Rattle.history.specs.Laws.{Stands, CoversLimit, AllOpen}
-use Rattle.history.specs.Runs.{names, has_failed_in, has_failed, net_payment, conclusion_refusal, concluded_figures, with_conclusion}
+use Rattle.history.specs.Runs.{names, has_failed, net_payment, conclusion_refusal, concluded_figures, with_conclusion}
 use Rattle.history.specs.States.{State, market_of, account_with}
 use Rattle.history.proofs.Concluded.{figures-concluded, concludes-open, found-concluded}
 use Rattle.history.proofs.Concluding.{concluded_for, Ready, found-ready}
-use Rattle.history.proofs.Invariant.{Tied, Invariant}
+use Rattle.history.proofs.Invariant.{Invariant}
 use Rattle.history.proofs.Tests.{not_there}
 
 -- amounts that are the same are worth the same

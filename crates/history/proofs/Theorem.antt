@@ -1,5 +1,5 @@
 -- Every book that has a history behind it keeps the law.
-use Rattle.std.proofs.Common.{◌≡◌, ℕ, List, [], ◌∷◌, ℤ, pos, ◌+ℤ◌, Some, None, Option, sym, refl, ap, ◌∙◌, subst, arith}
+use Rattle.std.proofs.Common.{◌≡◌, ℕ, List, [], ◌∷◌, ◌+ℤ◌, Some, None, Option, sym, refl, ap, ◌∙◌, subst, arith}
 use Rattle.money.specs.declared.code.Code.{Code}
 use Rattle.money.specs.declared.currency.Currency.{Currency}
 use Rattle.money.specs.Refusals.{Told}
@@ -8,7 +8,7 @@ use Rattle.determination.proofs.DeterminationLaws.{every-determination}
 use Rattle.history.specs.Calls.{Call, set_rate, set_holiday, open_account, set_limits, set_margin, deposit, settle, call_back, cut_off, conclude, ask_standing}
 use Rattle.history.specs.Histories.{after, Reached, if_performed, paid_in, tally}
 use Rattle.history.specs.Laws.{position_of, CallLaw, NewestLaw, BookLaw, EveryBook, EveryCall}
-use Rattle.history.specs.States.{State, new_state}
+use Rattle.history.specs.States.{State}
 use Rattle.history.specs.Steps.{refused, changed, unless, step}
 use Rattle.history.proofs.Callbacks.{callback-law}
 use Rattle.history.proofs.Concluded.{plus_none}

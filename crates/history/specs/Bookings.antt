@@ -1,8 +1,5 @@
 -- The calls that change rates, holidays and single accounts: what each is refused for, and what it changes.
-use Rattle.std.specs.Prelude.{ℕ, Bool, true, false, cond, not, ◌&&◌, ◌||◌, List, [], ◌∷◌, ◌++◌, length, ℤ, pos, ◌+ℤ◌, neg_ℤ, is_some, Some, None, Option, ◌==◌, nat_le, nat_lt, slice_set, unsigned_abs}
-use Rattle.std.specs.Int.Signed.{lt_z}
-use Rattle.std.specs.Option.{unwrap_or}
-use Rattle.std.specs.Str.{bytes_eq}
+use Rattle.std.specs.Prelude.{ℕ, Bool, false, cond, not, ◌&&◌, ◌||◌, List, [], ◌∷◌, length, ℤ, ◌+ℤ◌, is_some, Some, None, Option, ◌==◌, nat_le, nat_lt, slice_set, unsigned_abs}
 use Rattle.money.specs.declared.cause.AccountCause.TheVariants.{OutOfRange, PastBound, PastCeiling}
 use Rattle.money.specs.declared.cause.BookCause.TheVariants.{RunOpen, CodeForm, CodeHeld, CodeAbsent, CurrencyUnknown, OptimizationNumber, LevelOrSetting, PriorityForm, BaseNotAdmitted, RateMissing, Full, Stopped}
 use Rattle.money.specs.declared.cause.Cause.TheVariants.{Book, Account}
@@ -13,7 +10,7 @@ use Rattle.money.specs.Codes.{bytes_of, code_of}
 use Rattle.money.specs.CodeOrders.{is_below}
 use Rattle.money.specs.Currencies.{currency_of, place}
 use Rattle.money.specs.Options.{first_of}
-use Rattle.money.specs.Ranges.{bound, rate_range, figure_range, settlement_range, payment_range, optimization_range}
+use Rattle.money.specs.Ranges.{rate_range, figure_range, settlement_range, payment_range, optimization_range}
 use Rattle.money.specs.Refusals.{Told, tells}
 use Rattle.money.specs.Statuses.{status_of}
 use Rattle.account.specs.declared.account.AccountState.{AccountState}

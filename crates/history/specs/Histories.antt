@@ -1,5 +1,5 @@
 -- Histories: a book's making and its calls after it, refused ones included; the newest call comes first.
-use Rattle.std.specs.Prelude.{◌≡◌, ℕ, Bool, false, cond, eqb, List, [], ◌∷◌, map, ℤ, pos, ◌+ℤ◌, ◌-ℤ◌, neg_ℤ, Some, None, Option}
+use Rattle.std.specs.Prelude.{◌≡◌, ℕ, Bool, false, cond, List, [], ◌∷◌, map, ℤ, pos, ◌+ℤ◌, neg_ℤ, Some, None, Option}
 use Rattle.std.specs.Str.{bytes_eq}
 use Rattle.money.specs.declared.code.Code.{Code}
 use Rattle.money.specs.declared.currency.Currency.{Currency}
@@ -7,12 +7,9 @@ use Rattle.money.specs.Codes.{bytes_of, code_of}
 use Rattle.money.specs.Currencies.{currency_of}
 use Rattle.money.specs.Refusals.{Told}
 use Rattle.account.specs.declared.account.AccountState.{AccountState}
-use Rattle.account.specs.declared.account.Figures.{Figures}
-use Rattle.account.specs.Accounts.{no_figures, figures_in}
 use Rattle.determination.specs.declared.determination.Determination.{Determination}
 use Rattle.determination.specs.Determinations.{determination, share}
 use Rattle.determination.specs.Valuations.{Valuation}
-use Rattle.history.specs.Bookings.{figures_for}
 use Rattle.history.specs.Calls.{Call, set_rate, set_holiday, open_account, set_limits, set_margin, deposit, settle, call_back, cut_off, conclude, ask_standing, FailedDebit}
 use Rattle.history.specs.Runs.{is_currency, carried_out}
 use Rattle.history.specs.States.{State, new_state, market_of, account_with}

@@ -1,20 +1,18 @@
 -- Worked mornings: figures that the definitions give, each worked out by hand.
-use Rattle.std.specs.Prelude.{◌≡◌, ℕ, Bool, true, not, List, [], ◌∷◌, length, replicate, ℤ, pos, neg_ℤ, Some, None, codes, Option}
+use Rattle.std.specs.Prelude.{◌≡◌, true, not, List, [], ◌∷◌, ℤ, pos, neg_ℤ, Some, None, codes}
 use Rattle.money.specs.declared.cause.AccountCause.TheVariants.{PastBound}
 use Rattle.money.specs.declared.cause.Cause.TheVariants.{Account}
 use Rattle.money.specs.declared.currency.Currency.{Currency}
 use Rattle.money.specs.declared.currency.Currency.TheVariants.{Gbp, Dkk, Eur, Nok, Sek, Usd}
-use Rattle.money.specs.declared.status.Status.TheVariants.{Open}
-use Rattle.money.specs.Codes.{code_of, eight}
-use Rattle.money.specs.Currencies.{currencies, is_same}
-use Rattle.money.specs.Ranges.{bound}
+use Rattle.money.specs.Codes.{eight}
+use Rattle.money.specs.Currencies.{is_same}
 use Rattle.money.specs.Refusals.{tells}
 use Rattle.account.specs.declared.account.AccountState.{AccountState}
 use Rattle.account.specs.declared.account.Figures.{Figures}
 use Rattle.account.specs.declared.terms.DebitSetting.TheVariants.{MarginCurrency}
 use Rattle.account.specs.declared.terms.Level.{Level}
 use Rattle.account.specs.declared.terms.Level.TheVariants.{MarginRequirement, CashOptimization}
-use Rattle.account.specs.Accounts.{no_figures, figures_in, with_figures, new_account}
+use Rattle.account.specs.Accounts.{figures_in, with_figures, new_account}
 use Rattle.account.specs.Bookings.{deposit_booked}
 use Rattle.valuation.specs.FlatCharges.{flat_count, flat_admits}
 use Rattle.valuation.specs.Norms.{norm_count, norm_admits}
@@ -24,7 +22,7 @@ use Rattle.determination.specs.Standings.{standing}
 use Rattle.determination.specs.Valuations.{Valuation, valuation_of, Market}
 use Rattle.history.specs.Bookings.{deposit_refusal, booked, with_accounts}
 use Rattle.history.specs.Calls.{FailedDebit}
-use Rattle.history.specs.Runs.{net_payment, carried_out, concluded_account, concluded_accounts}
+use Rattle.history.specs.Runs.{net_payment, carried_out, concluded_account}
 use Rattle.history.specs.States.{State, new_state}
 
 -- THE FIGURES THAT ARE GIVEN

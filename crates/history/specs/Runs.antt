@@ -1,13 +1,12 @@
 -- Runs: cut-offs, net payments, what is carried out, and conclusions.
 use Rattle.std.specs.Prelude.{ℕ, ◌+◌, Bool, true, false, cond, not, ◌&&◌, ◌||◌, List, [], ◌∷◌, map, ℤ, pos, ◌+ℤ◌, ◌-ℤ◌, is_some, Some, None, Option, ◌==◌, int_lt, nat_eq, nat_le, unsigned_abs}
-use Rattle.std.specs.Option.{option_map}
 use Rattle.money.specs.declared.cause.AccountCause.TheVariants.{PastBound}
 use Rattle.money.specs.declared.cause.BookCause.TheVariants.{RunOpen, OtherRun, CurrencyUnknown, OptimizationNumber, RateMissing, Full, NoNetDebit}
 use Rattle.money.specs.declared.cause.Cause.TheVariants.{Book, Account}
 use Rattle.money.specs.declared.code.Code.{Code}
 use Rattle.money.specs.declared.currency.Currency.{Currency}
 use Rattle.money.specs.Currencies.{currencies, currency_of, is_same}
-use Rattle.money.specs.Options.{first_of, before}
+use Rattle.money.specs.Options.{first_of}
 use Rattle.money.specs.Ranges.{bound, optimization_range}
 use Rattle.money.specs.Refusals.{Told, tells}
 use Rattle.account.specs.declared.account.AccountState.{AccountState}

@@ -1,5 +1,5 @@
 -- The book as the trade sees it.
-use Rattle.std.specs.Prelude.{ℕ, Bool, not, List, [], length, replicate, ℤ, pos, is_some, Some, None, Option, slice_index_or}
+use Rattle.std.specs.Prelude.{ℕ, Bool, not, List, [], length, replicate, ℤ, pos, is_some, None, Option, slice_index_or}
 use Rattle.std.specs.Option.{unwrap_or}
 use Rattle.money.specs.declared.code.Code.{Code}
 use Rattle.money.specs.declared.currency.Currency.{Currency}

@@ -1,5 +1,5 @@
 -- The life of a book, call by call.
-use Rattle.std.specs.Prelude.{ℕ, Some, None, Option}
+use Rattle.std.specs.Prelude.{Some, None, Option}
 use Rattle.money.specs.Refusals.{Told}
 use Rattle.account.specs.Bookings.{with_limits, with_margin, deposit_booked, settlement_booked, callback_booked}
 use Rattle.determination.specs.Valuations.{Valuation}

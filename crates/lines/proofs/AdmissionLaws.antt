@@ -1,14 +1,14 @@
 -- A line is admitted just where a sound record is written so.
-use Rattle.std.proofs.Common.{◌≡◌, ℕ, ◌<◌, ◌≤◌, Bool, true, ◌&&◌, leb, List, [], ◌∷◌, length, ℤ, Some, None, Ok, Err, decimal, Option, Result, sym, refl, ap, ◌∙◌, subst, arith, length-append, ne_eqb, leb-true}
+use Rattle.std.proofs.Common.{◌≡◌, ℕ, ◌<◌, ◌≤◌, true, leb, List, [], ◌∷◌, length, ℤ, Some, Ok, Err, Result, sym, refl, ap, ◌∙◌, subst, arith, length-append, ne_eqb, leb-true}
 use Rattle.std.proofs.lemmas.Fmt.{length-decimal-le}
 use Rattle.std.proofs.lemmas.Bool.{and_parts}
 use Rattle.std.specs.Result.{result_ok}
-use Rattle.std.specs.Fmt.{signed_decimal, digits}
+use Rattle.std.specs.Fmt.{signed_decimal}
 use Rattle.money.specs.declared.currency.Currency.{Currency}
 use Rattle.money.specs.declared.status.Status.{Status}
 use Rattle.money.specs.declared.status.Status.TheVariants.{Open, Shut}
 use Rattle.money.specs.Currencies.{letters, currency_of}
-use Rattle.money.specs.Options.{before, every}
+use Rattle.money.specs.Options.{every}
 use Rattle.money.specs.Ranges.{within, rate_range}
 use Rattle.money.specs.Statuses.{flag_of, status_of}
 use Rattle.money.proofs.Readings.{currency-says, currency-reads, letters-capital, letters-three, status-reads, status-says, rate-natural}

@@ -1,12 +1,12 @@
 -- What is read of a line is what it was written from, and the other way round.
-use Rattle.std.proofs.Common.{◌≡◌, ℕ, ◌≤◌, Bool, true, false, cond, eqb, leb, List, [], ◌∷◌, ◌++◌, length, get_or, drop, ℤ, Some, None, Option, sym, refl, ap, ◌∙◌, subst, append_assoc, arith, length-append, eq-eqb, eqb-true, le-leb, leb-true}
+use Rattle.std.proofs.Common.{◌≡◌, ℕ, ◌≤◌, Bool, true, false, cond, eqb, leb, List, [], ◌∷◌, ◌++◌, length, get_or, drop, ℤ, Some, Option, sym, refl, ap, ◌∙◌, subst, append_assoc, arith, length-append, eq-eqb, eqb-true, le-leb, leb-true}
 use Rattle.std.proofs.lemmas.List.{nil_from_length}
 use Rattle.std.specs.Fmt.{signed_decimal}
 use Rattle.text.specs.Cuts.{cut_at, Free}
 use Rattle.text.specs.Numbers.{Short}
 use Rattle.text.proofs.CutLaws.{cut-says, cut-reads, free-joined}
 use Rattle.text.proofs.Spellings.{some_same, before-some, if-then, number-free}
-use Rattle.lines.specs.Lines.{Line, rate, holiday, letter, fields, ended, written, Word, Good, Form, text_number, of_text_number, fielded, lettered, body_of, parsed}
+use Rattle.lines.specs.Lines.{Line, rate, holiday, letter, fields, ended, Word, Good, Form, text_number, of_text_number, fielded, lettered, body_of, parsed}
 use Rattle.lines.proofs.Shapes.{tabs, text_number-reads, text_number-says}
 
 pub lettered-tab : (b : List ℕ) → 2 ≤ length b → get_or b 1 0 ≡ 9 → lettered b ≡ fielded (get_or b 0 0) (drop 2 b)

@@ -1,12 +1,11 @@
 -- A code is read from its eight characters, and written as them.
-use Rattle.std.proofs.Common.{◌≡◌, ℕ, ◌<◌, ◌≤◌, Bool, true, false, cond, ◌&&◌, eqb, leb, List, [], ◌∷◌, ◌++◌, length, get_or, Some, None, IsAscii, Option, sym, refl, ap, ◌∙◌, subst, append-nil, arith, eqb-true, le-leb}
-use lib.Utf8.{encode, encodes}
+use Rattle.std.proofs.Common.{◌≡◌, ℕ, ◌≤◌, Bool, true, false, cond, eqb, leb, List, [], ◌∷◌, length, Some, None, IsAscii, sym, refl, ap, ◌∙◌, subst, append-nil, arith, eqb-true, le-leb}
 use Rattle.std.proofs.lemmas.Str.Ascii.{encodes-IsAscii, IsAscii-nil, IsAscii-cons}
 use Rattle.std.proofs.lemmas.Bool.{and_parts, and_from}
 use Rattle.std.proofs.lemmas.Bool.Decides.{nat_tests}
 use Rattle.money.specs.declared.code.Code.{Code}
 use Rattle.money.specs.Options.{every}
-use Rattle.money.specs.Codes.{is_code_byte, formed, bytes_of, eight, of_eight, code_of, shown_code}
+use Rattle.money.specs.Codes.{is_code_byte, formed, bytes_of, eight, code_of, shown_code}
 
 -- a character of a code is neither below the digits nor above the capitals
 code-byte : (b : ℕ) → is_code_byte b ≡ true → (48 ≤ b) × (b ≤ 90)

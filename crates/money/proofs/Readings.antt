@@ -3,7 +3,6 @@ use Rattle.std.proofs.Common.{◌≡◌, ℕ, ◌≤◌, Bool, true, false, cond
 use Rattle.std.proofs.lemmas.Slice.Eq.{bytes_eq-Decides}
 use Rattle.std.proofs.lemmas.Bool.{and_parts}
 use Rattle.money.specs.declared.currency.Currency.{Currency}
-use Rattle.money.specs.declared.range.Range.{Range}
 use Rattle.money.specs.declared.status.Status.{Status}
 use Rattle.money.specs.declared.status.Status.TheVariants.{Open, Shut}
 use Rattle.money.specs.Currencies.{currencies, place, letters, is_written, currency_of}

@@ -1,11 +1,11 @@
 -- A line that the book performs is admitted.
-use Rattle.std.proofs.Common.{◌≡◌, ℕ, Bool, true, false, cond, List, ℤ, Some, None, Ok, Err, Option, Result, sym, refl, ◌∙◌, arith}
+use Rattle.std.proofs.Common.{◌≡◌, ℕ, Bool, true, cond, List, ℤ, Some, None, Ok, Err, Option, Result, sym, refl, arith}
 use Rattle.money.specs.declared.currency.Currency.{Currency}
 use Rattle.money.specs.declared.status.Status.{Status}
 use Rattle.money.specs.Currencies.{currency_of}
 use Rattle.money.specs.Options.{before}
 use Rattle.money.specs.Ranges.{within, rate_range}
-use Rattle.money.specs.Refusals.{Told, refusal_of}
+use Rattle.money.specs.Refusals.{refusal_of}
 use Rattle.money.specs.Statuses.{status_of}
 use Rattle.determination.specs.Valuations.{Valuation}
 use Rattle.request.specs.Causes.{is_none, outside}

@@ -1,5 +1,5 @@
 -- What `cut_at` gives.
-use Rattle.std.proofs.Common.{◌≡◌, ℕ, zero, suc, ◌+◌, ◌<◌, ◌≤◌, Bool, true, false, cond, eqb, List, [], ◌∷◌, ◌++◌, length, get_or, take, drop, Some, None, Option, sym, refl, ap, ◌∙◌, subst, arith, eq-eqb, ne_eqb, eqb-true, true-eqb, false-eqb}
+use Rattle.std.proofs.Common.{◌≡◌, ℕ, zero, suc, ◌<◌, Bool, true, false, cond, eqb, List, [], ◌∷◌, ◌++◌, length, get_or, take, drop, Some, None, Option, refl, ap, subst, arith, eq-eqb, ne_eqb, eqb-true}
 use Rattle.text.specs.Cuts.{onto, cut_at, Free}
 
 some_same : {X : Type 0} {x y : X} → Some x ≡ Some y → x ≡ y

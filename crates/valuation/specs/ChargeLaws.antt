@@ -1,9 +1,9 @@
 -- The flat charge keeps the laws.
 use Rattle.std.specs.Prelude.{◌≡◌, ℕ, ◌+◌, ◌-◌, ◌≤◌, Bool, true, false, cond, ◌≢◌, ℤ, refl}
 use Rattle.std.proofs.Common.{◌∙◌, arith}
-use Rattle.std.proofs.lemmas.Bool.{cond-true, cond-false, eq-eqb, ne_eqb}
+use Rattle.std.proofs.lemmas.Bool.{cond-true, cond-false}
 use Rattle.money.specs.declared.currency.Currency.{Currency}
-use Rattle.money.specs.Currencies.{place, is_same}
+use Rattle.money.specs.Currencies.{is_same}
 use Rattle.money.proofs.EachCurrency.{same-itself, different}
 use Rattle.valuation.specs.Laws.{InRange, Lawful}
 use Rattle.valuation.specs.FlatCharges.{charge, charged, charged_outside, flat_admits, flat_count}

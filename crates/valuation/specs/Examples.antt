@@ -1,5 +1,5 @@
 -- What holds of the valuations of this crate, with an example of the flat charge.
-use Rattle.std.specs.Prelude.{◌≡◌, ◌≢◌, ℤ, pos, neg_ℤ}
+use Rattle.std.specs.Prelude.{◌≡◌, ◌≢◌, pos, neg_ℤ}
 use Rattle.money.specs.declared.currency.Currency.{Currency}
 use Rattle.valuation.specs.Laws.{Lawful}
 use Rattle.valuation.specs.FlatCharges.{flat_admits, flat_count}

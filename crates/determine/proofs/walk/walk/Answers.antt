@@ -1,4 +1,4 @@
-use Rattle.std.proofs.Common.{◌≡◌, ◌+◌, ◌<◌, List, [], length, get_or, drop, set, replicate, ℤ, pos, sym, ap, ◌∙◌, subst, arith, length-set, w64, to_z, of_z, rules}
+use Rattle.std.proofs.Common.{◌≡◌, ◌+◌, ◌<◌, List, [], length, get_or, drop, set, replicate, ℤ, pos, sym, ap, ◌∙◌, subst, length-set, w64, to_z, of_z, rules}
 use Rattle.std.proofs.lemmas.List.{drop_all}
 use Rattle.std.proofs.lemmas.Int.{to_z-of_z}
 use Rattle.money.specs.declared.currency.Currency.{Currency}

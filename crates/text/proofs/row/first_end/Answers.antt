@@ -1,4 +1,4 @@
-use Rattle.std.proofs.Common.{◌≡◌, [], length, take, drop, Some, sym, subst, arith}
+use Rattle.std.proofs.Common.{length, Some, sym, subst, arith}
 use Rattle.std.proofs.lemmas.List.{take_all, drop_all}
 use Rattle.text.specs.Rows.{First}
 use Rattle.text.proofs.RowLaws.{first_some, first-none}

@@ -1,6 +1,5 @@
-use Rattle.std.proofs.Common.{◌≡◌, ℕ, ◌+◌, ◌-◌, ◌*◌, ◌<◌, ◌≤◌, List, length, take, drop, Some, None, sym, ap, ◌∙◌, arith, length-set, eq-eqb, ne_eqb}
+use Rattle.std.proofs.Common.{◌≡◌, ℕ, ◌+◌, ◌-◌, ◌*◌, List, length, take, drop, Some, None, sym, ap, ◌∙◌, arith, length-set, eq-eqb, ne_eqb}
 use Rattle.money.specs.Currencies.{currencies, currency_of}
-use Rattle.account.specs.Priorities.{named}
 use Rattle.account.proofs.Namings.{named_more, named_none, named-all}
 use Rattle.account.proofs.priority.calls.read_order.Goals as goal
 

@@ -1,4 +1,4 @@
-use Rattle.std.proofs.Common.{◌≡◌, [], ap, arith}
+use Rattle.std.proofs.Common.{ap, arith}
 use Rattle.std.proofs.lemmas.List.{nil_from_length}
 use Rattle.text.specs.Rows.{rows}
 use Rattle.determination.specs.Valuations.{valuation_of}

@@ -1,6 +1,6 @@
-use Rattle.std.proofs.Common.{◌≡◌, ℕ, Some, None, Ok, sym, ap, ◌∙◌, arith}
+use Rattle.std.proofs.Common.{◌≡◌, ℕ, Ok, sym, ap, ◌∙◌, arith}
 use Rattle.determine.specs.Markets.{market_in}
-use Rattle.quotes.specs.Rates.{missing_in, quoted_market, unless_missing}
+use Rattle.quotes.specs.Rates.{quoted_market, unless_missing}
 use Rattle.quotes.proofs.RateLaws.{market-made}
 use Rattle.quotes.proofs.quotes.Quotes.market.Goals as goal
 
