@@ -10,23 +10,13 @@ use money::currency::Currency;
 use money::range::{FIGURE, PAYMENT, RATE, SETTLEMENT};
 use money::status::Status;
 
-fn out_of_range(code: Option<Code>, currency: Currency) -> AccountFault
-    ensures { result ≡ out_of_range code (Some currency) }
+fn out_of_range(currency: Currency) -> AccountFault
+    ensures { result ≡ out_of_range None (Some currency) }
 {
     AccountFault {
         cause: AccountCause::OutOfRange,
-        code,
+        code: None,
         currency: Some(currency),
-    }
-}
-
-fn expect(inside: bool, code: Option<Code>, currency: Currency) -> Result<(), AccountFault>
-    ensures { result ≡ range_answer inside code currency }
-{
-    if inside {
-        Ok(())
-    } else {
-        Err(out_of_range(code, currency))
     }
 }
 
@@ -34,14 +24,30 @@ fn expect(inside: bool, code: Option<Code>, currency: Currency) -> Result<(), Ac
 pub fn check_rate(currency: Currency, rate: i64) -> Result<(), AccountFault>
     ensures { result ≡ rate_answer currency rate }
 {
-    expect(RATE.holds(rate), None, currency)
+    if RATE.holds(rate) {
+        Ok(())
+    } else {
+        Err(out_of_range(currency))
+    }
 }
 
 /// The status that a holiday flag gives; a flag that is neither 0 nor 1 is refused.
 pub fn read_status(currency: Currency, flag: i64) -> Result<Status, AccountFault>
     ensures { result ≡ status_answer currency flag }
 {
-    Status::read(flag).ok_or(out_of_range(None, currency))
+    Status::read(flag).ok_or(out_of_range(currency))
+}
+
+fn expect(inside: bool, code: Option<Code>, currency: Currency) -> Result<(), AccountFault>
+    ensures { result ≡ range_answer inside code currency }
+{
+    if inside {
+        return Ok(());
+    }
+    Err(AccountFault {
+        code,
+        ..out_of_range(currency)
+    })
 }
 
 /// Refuses a deposit or a callback that is out of range.

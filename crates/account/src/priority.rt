@@ -12,3 +12,12 @@ pub struct Priority {
     order: [Currency; COUNT],
     ghost once: { names_each_once order ≡ true },
 }
+
+impl Priority {
+    /// The currencies in their order.
+    pub fn order(self) -> [Currency; COUNT]
+        ensures { result ≡ self.order }
+    {
+        self.order
+    }
+}

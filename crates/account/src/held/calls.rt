@@ -9,14 +9,14 @@ ghost use Rattle.money.specs.Ranges.{bound, within, figure_range, settlement_ran
 
 use super::Account;
 use crate::account::{AccountState, Figures, NO_FIGURES};
-use crate::check::{check_figures, check_payment, check_settlement};
+use crate::check::check_payment;
 use crate::fault::AccountFault;
 use crate::priority::Priority;
 use crate::terms::{DebitSetting, Level};
 use money::cause::AccountCause;
 use money::code::Code;
 use money::currency::{COUNT, Currency};
-use money::range::{FIGURE, SETTLEMENT};
+use money::range::{FIGURE, PAYMENT, SETTLEMENT};
 
 impl Account {
     /// A new account; all its figures are 0.
@@ -64,7 +64,9 @@ impl Account {
         ensures answer { result ≡ deposit_answer (state_of self.old) currency amount }
         ensures after { state_of self.new ≡ chosen result (state_of self.old) (change_figures (deposit_booked amount) currency (state_of self.old)) }
     {
-        check_payment(Some(self.state.code), currency, amount)?;
+        if !PAYMENT.holds(amount) {
+            return Err(self.fault(currency, AccountCause::OutOfRange));
+        }
         let cash = self.cash_with(currency, amount);
         if !FIGURE.holds(cash) {
             return Err(self.fault(currency, AccountCause::PastBound));
@@ -79,7 +81,9 @@ impl Account {
         ensures answer { result ≡ settlement_answer (state_of self.old) currency amount }
         ensures after { state_of self.new ≡ chosen result (state_of self.old) (change_figures (settlement_booked amount) currency (state_of self.old)) }
     {
-        check_settlement(Some(self.state.code), currency, amount)?;
+        if !SETTLEMENT.holds(amount) {
+            return Err(self.fault(currency, AccountCause::OutOfRange));
+        }
         let settlement = self.settlement_with(currency, amount);
         if !SETTLEMENT.holds(settlement) {
             return Err(self.fault(currency, AccountCause::PastBound));
@@ -98,7 +102,9 @@ impl Account {
         ensures answer { result ≡ limits_answer (state_of self.old) currency limit excess }
         ensures after { state_of self.new ≡ chosen result (state_of self.old) (change_figures (with_limits limit excess) currency (state_of self.old)) }
     {
-        check_figures(Some(self.state.code), currency, limit, excess)?;
+        if !are_figures(limit, excess) {
+            return Err(self.fault(currency, AccountCause::OutOfRange));
+        }
         self.put_limits(currency, limit, excess);
         Ok(())
     }
@@ -113,7 +119,9 @@ impl Account {
         ensures answer { result ≡ margin_answer (state_of self.old) currency requirement non_cash }
         ensures after { state_of self.new ≡ chosen result (state_of self.old) (change_figures (with_margin requirement non_cash) currency (state_of self.old)) }
     {
-        check_figures(Some(self.state.code), currency, requirement, non_cash)?;
+        if !are_figures(requirement, non_cash) {
+            return Err(self.fault(currency, AccountCause::OutOfRange));
+        }
         self.put_margin(currency, requirement, non_cash);
         Ok(())
     }
@@ -249,6 +257,12 @@ impl Account {
         figures.requirement = requirement;
         figures.non_cash = non_cash;
     }
+}
+
+fn are_figures(first: i64, second: i64) -> bool
+    ensures { result ≡ are_figures first second }
+{
+    FIGURE.holds(first) && FIGURE.holds(second)
 }
 
 fn sum(figure: i64, amount: i64) -> i64

@@ -18,13 +18,6 @@ impl Priority {
         Priority::read_all(text)
     }
 
-    /// The currencies in their order.
-    pub fn order(self) -> [Currency; COUNT]
-        ensures { result ≡ self.order }
-    {
-        self.order
-    }
-
     fn read_all(text: &[u8]) -> Option<Priority>
         ensures { order_in result ≡ before (of_all text.now) each_once }
     {
