@@ -1,7 +1,7 @@
 //! What the account layer refuses.
 ghost use Rattle.std.specs.Prelude.{◌≡◌};
 ghost use Rattle.account.specs.Faults.{told};
-ghost use Rattle.money.specs.Refusals.{told as told_by};
+ghost use Rattle.money.specs.Refusals.{told as toldBy};
 
 use money::cause::{AccountCause, Cause};
 use money::code::Code;
@@ -19,7 +19,7 @@ pub struct AccountFault {
 impl AccountFault {
     /// The refusal as it is printed.
     pub fn refusal(self) -> Refusal
-        ensures { told_by result ≡ told self }
+        ensures { toldBy result ≡ told self }
     {
         Refusal {
             cause: Cause::Account(self.cause),

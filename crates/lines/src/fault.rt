@@ -1,7 +1,7 @@
 //! What the sheet refuses.
 ghost use Rattle.std.specs.Prelude.{◌≡◌};
 ghost use Rattle.lines.specs.Faults.{told, of_book};
-ghost use Rattle.money.specs.Refusals.{told as told_by};
+ghost use Rattle.money.specs.Refusals.{told as toldBy};
 
 use money::cause::Cause;
 use money::refusal::Refusal;
@@ -30,7 +30,7 @@ impl SheetFault {
 
     /// The refusal as it is printed.
     pub fn refusal(self) -> Refusal
-        ensures { told_by result ≡ told self }
+        ensures { toldBy result ≡ told self }
     {
         match self.cause {
             SheetCause::Form => Refusal {

@@ -4,7 +4,7 @@ ghost use Rattle.request.specs.Faults.{told as told_by_book};
 ghost use Rattle.lines.specs.Admissions.{barred, admission, Exactly};
 ghost use Rattle.lines.specs.Entries.{meant};
 ghost use Rattle.lines.specs.Faults.{told};
-ghost use Rattle.lines.specs.Lines.{written, rate as rate_line, holiday as holiday_line};
+ghost use Rattle.lines.specs.Lines.{written, rate as rateLine, holiday as holidayLine};
 ghost use Rattle.lines.specs.Records.{known, line_of, shown_record, record_of, barred_for};
 ghost use Rattle.money.specs.Refusals.{refusal_of};
 ghost use Rattle.std.specs.Result.{result_ok};
@@ -56,8 +56,8 @@ fn known(currency: &[u8]) -> Result<Currency, BookFault>
 }
 
 fn rate_record(currency: &[u8], rate: i64) -> Result<Record, BookFault>
-    ensures answer { refusal_of told_by_book result ≡ barred_for (rate_line currency.now rate) }
-    ensures value { result_ok result ≡ record_of (rate_line currency.now rate) }
+    ensures answer { refusal_of told_by_book result ≡ barred_for (rateLine currency.now rate) }
+    ensures value { result_ok result ≡ record_of (rateLine currency.now rate) }
 {
     let currency = known(currency)?;
     check_rate(currency, rate)?;
@@ -65,8 +65,8 @@ fn rate_record(currency: &[u8], rate: i64) -> Result<Record, BookFault>
 }
 
 fn holiday_record(currency: &[u8], flag: i64) -> Result<Record, BookFault>
-    ensures answer { refusal_of told_by_book result ≡ barred_for (holiday_line currency.now flag) }
-    ensures value { result_ok result ≡ record_of (holiday_line currency.now flag) }
+    ensures answer { refusal_of told_by_book result ≡ barred_for (holidayLine currency.now flag) }
+    ensures value { result_ok result ≡ record_of (holidayLine currency.now flag) }
 {
     let currency = known(currency)?;
     let status = read_status(currency, flag)?;

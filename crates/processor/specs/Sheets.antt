@@ -2,7 +2,7 @@
 use Rattle.std.specs.Prelude.{ℕ, ◌+◌, List, [], ◌∷◌, ◌++◌, take}
 
 -- the first 65,536 bytes
-abbrev pub sheet_of : List ℕ → List ℕ
+unfoldable pub sheet_of : List ℕ → List ℕ
 sheet_of input = take 65536 input
 
 -- what a reader prints of some lines: from its state, after so many lines

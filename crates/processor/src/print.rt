@@ -12,6 +12,7 @@ use std::fmt::Write;
 pub const LIMIT: usize = 65_536;
 
 /// What is looked at of an input: its first 65,536 bytes.
+#[tactic(auto, unfolding(crate::specs::Sheets::sheet_of))]
 pub fn sheet_of(input: &[u8]) -> &[u8]
     ensures { result.now ≡ sheet_of input.now }
 {

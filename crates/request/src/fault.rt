@@ -2,7 +2,7 @@
 ghost use Rattle.std.specs.Prelude.{◌≡◌};
 ghost use Rattle.request.specs.Faults.{told};
 ghost use Rattle.request.specs.declared.fault.BookFault.TheVariants.{Account as OfAccount};
-ghost use Rattle.money.specs.Refusals.{told as told_by};
+ghost use Rattle.money.specs.Refusals.{told as toldBy};
 
 use account::fault::AccountFault;
 use money::cause::{BookCause, Cause};
@@ -24,7 +24,7 @@ pub enum BookFault {
 impl BookFault {
     /// The refusal as it is printed.
     pub fn refusal(self) -> Refusal
-        ensures { told_by result ≡ told self }
+        ensures { toldBy result ≡ told self }
     {
         match self {
             BookFault::Own {
