@@ -66,7 +66,7 @@ impl Quotes {
         }
         match Market::new(self.given(), self.statuses) {
             Some(market) => Ok(market),
-            None => unreachable(),
+            None => unreachable!(),
         }
     }
 
