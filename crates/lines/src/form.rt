@@ -1,8 +1,8 @@
 //! The form of a line: its letter, a tab before each field, and the line feed.
 ghost use Rattle.std.specs.Prelude.{◌≡◌};
-ghost use Rattle.lines.specs.Entries.{held_text_number, heard, entry_of, Exactly};
+ghost use Rattle.lines.specs.Entries.{held_text_number, held_text_text_number, held_text_text_number_number, held_number_text, held_number_number_text, heard, entry_of, Exactly};
 ghost use Rattle.lines.specs.Faults.{told};
-ghost use Rattle.lines.specs.Lines.{text_number, fielded, lettered, body_of, parsed, form_fault};
+ghost use Rattle.lines.specs.Lines.{last, text_number, text_text_number, number_number, text_text_number_number, number_text, number_number_text, opening_of, fielded, lettered, body_of, parsed, form_fault};
 ghost use Rattle.money.specs.Refusals.{refusal_of};
 ghost use Rattle.std.specs.Option.{option_map};
 
@@ -21,6 +21,73 @@ fn text_number(fields: &[u8]) -> Option<(&[u8], i64)>
     Some((text, number(figure)?))
 }
 
+fn text_text_number(fields: &[u8]) -> Option<(&[u8], &[u8], i64)>
+    ensures { held_text_text_number result ≡ text_text_number fields.now }
+{
+    let (first, rest) = cut(fields, b'\t')?;
+    let (second, figure) = text_number(rest)?;
+    Some((first, second, figure))
+}
+
+fn number_number(fields: &[u8]) -> Option<(i64, i64)>
+    ensures { result ≡ number_number fields.now }
+{
+    let (first, second) = cut(fields, b'\t')?;
+    Some((number(first)?, number(second)?))
+}
+
+fn text_text_number_number(fields: &[u8]) -> Option<(&[u8], &[u8], i64, i64)>
+    ensures { held_text_text_number_number result ≡ text_text_number_number fields.now }
+{
+    let (first, rest) = cut(fields, b'\t')?;
+    let (second, figures) = cut(rest, b'\t')?;
+    let (third, fourth) = number_number(figures)?;
+    Some((first, second, third, fourth))
+}
+
+fn last(text: &[u8]) -> Option<&[u8]>
+    ensures { option_map (λ x. x.now) result ≡ last text.now }
+{
+    match cut(text, b'\t') {
+        None => Some(text),
+        Some(_) => None,
+    }
+}
+
+fn number_text(fields: &[u8]) -> Option<(i64, &[u8])>
+    ensures { held_number_text result ≡ number_text fields.now }
+{
+    let (figure, text) = cut(fields, b'\t')?;
+    Some((number(figure)?, last(text)?))
+}
+
+fn number_number_text(fields: &[u8]) -> Option<(i64, i64, &[u8])>
+    ensures { held_number_number_text result ≡ number_number_text fields.now }
+{
+    let (figure, rest) = cut(fields, b'\t')?;
+    let first = number(figure)?;
+    let (second, text) = number_text(rest)?;
+    Some((first, second, text))
+}
+
+fn opening(fields: &[u8]) -> Option<Entry<'_>>
+    ensures { heard result ≡ opening_of fields.now }
+{
+    let (code, rest) = cut(fields, b'\t')?;
+    let (figure, rest) = cut(rest, b'\t')?;
+    let number = number(figure)?;
+    let (base, rest) = cut(rest, b'\t')?;
+    let (level, setting, priority) = number_number_text(rest)?;
+    Some(Entry::Opening {
+        code,
+        number,
+        base,
+        level,
+        setting,
+        priority,
+    })
+}
+
 fn field_line(letter: u8, fields: &[u8]) -> Option<Entry<'_>>
     ensures { heard result ≡ fielded letter fields.now }
 {
@@ -32,6 +99,41 @@ fn field_line(letter: u8, fields: &[u8]) -> Option<Entry<'_>>
         b'H' => {
             let (currency, flag) = text_number(fields)?;
             Some(Entry::Holiday { currency, flag })
+        }
+        b'A' => opening(fields),
+        b'L' => {
+            let (code, currency, limit, excess) = text_text_number_number(fields)?;
+            Some(Entry::Limits {
+                code,
+                currency,
+                limit,
+                excess,
+            })
+        }
+        b'M' => {
+            let (code, currency, requirement, non_cash) = text_text_number_number(fields)?;
+            Some(Entry::Margin {
+                code,
+                currency,
+                requirement,
+                non_cash,
+            })
+        }
+        b'D' => {
+            let (code, currency, amount) = text_text_number(fields)?;
+            Some(Entry::Deposit {
+                code,
+                currency,
+                amount,
+            })
+        }
+        b'S' => {
+            let (code, currency, amount) = text_text_number(fields)?;
+            Some(Entry::Settlement {
+                code,
+                currency,
+                amount,
+            })
         }
         _ => None,
     }

@@ -1,12 +1,13 @@
 //! Sheets checked line by line, with no book.
 ghost use Rattle.std.specs.Prelude.{◌≡◌, ◌++◌, IfOk, string_bytes, OnOk};
 ghost use Rattle.lines.specs.Lines.{written};
-ghost use Rattle.lines.specs.Records.{line_of};
+ghost use Rattle.records.specs.Records.{line_of};
 ghost use Rattle.processor.specs.Checks.{noted, notes, checked};
 ghost use Rattle.text.specs.Rows.{rows};
 
 use crate::print::{print_refusal, sheet_of};
-use lines::record::{Record, read_line};
+use records::admission::read_line;
+use records::record::Record;
 use std::alloc::{AllocError, Global};
 use std::fmt::Write;
 use text::row::first_line;

@@ -2,5 +2,6 @@
 #![tactic(auto)]
 
 pub mod check;
+pub mod order;
 pub mod perform;
 pub mod print;

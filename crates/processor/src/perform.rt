@@ -13,6 +13,7 @@ ghost use Rattle.processor.specs.Processors.{state_of};
 ghost use Rattle.processor.specs.Sheets.{sheet_of};
 ghost use Rattle.text.specs.Rows.{rows};
 
+use crate::order::order_of;
 use crate::print::{print_refusal, sheet_of};
 use book::book::Book;
 use lines::entry::Entry;
@@ -32,16 +33,18 @@ pub struct Processor<V> {
     book: Book<V>,
 }
 
-impl<V: Valuation> Processor<V> {
+impl<V: Valuation + Drop> Processor<V> {
     /// A processor with a new book under the valuation.
-    pub fn new(valuation: V) -> Self
-        ensures { state_of result ≡ new_state 1 }
+    pub fn new(heap: Global, valuation: V) -> Result<Self, AllocError>
+        ensures { IfOk result (λ p. state_of p ≡ new_state 1) }
     {
-        Processor {
-            book: Book::new(BOOK, valuation),
-        }
+        Ok(Processor {
+            book: Book::new(heap, BOOK, valuation)?,
+        })
     }
+}
 
+impl<V: Valuation> Processor<V> {
     /// Performs one line, which holds its line feed. A refused line leaves the book as it was.
     pub fn perform(&mut self, line: &[u8]) -> Result<(), SheetFault>
         ensures answer { refusal_of told result ≡ answer (valuation_of V.Valuation.counts V.Valuation.admitted) (state_of self.old) line.now }
@@ -64,10 +67,7 @@ impl<V: Valuation> Processor<V> {
         ensures answer { refusal_of told_by_book result ≡ refused (valuation_of V.Valuation.counts V.Valuation.admitted) (state_of self.old) (call_of (meant entry.entry)) }
         ensures after { state_of self.new ≡ step (valuation_of V.Valuation.counts V.Valuation.admitted) (state_of self.old) (call_of (meant entry.entry)) }
     {
-        match entry {
-            Entry::Rate { currency, rate } => self.book.set_rate(currency, rate),
-            Entry::Holiday { currency, flag } => self.book.set_holiday(currency, flag),
-        }
+        self.book.perform(order_of(entry))
     }
 
     // Performs one line, and prints its refusal if it has one.
@@ -104,7 +104,7 @@ fn transcribe<V: Valuation + Drop>(
     ensures { IfOk result (λ t. string_bytes t ≡ transcribed (valuation_of V.Valuation.counts V.Valuation.admitted) input.now) }
 {
     let mut out = String::new(heap);
-    let mut processor = Processor::new(valuation);
+    let mut processor = Processor::new(heap, valuation)?;
     processor.read(sheet_of(input), &mut out)?;
     Ok(out)
 }

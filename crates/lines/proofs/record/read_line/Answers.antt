@@ -1,5 +1,0 @@
-use Rattle.lines.proofs.AdmissionLaws.{exactly}
-use Rattle.lines.proofs.record.read_line.Goals as goal
-
-pub returns : goal.returns
-returns c = record { answer = c.admitted.ensures.answer; exact = exactly c.args.line.now c.admitted.result c.admitted.ensures.value }
