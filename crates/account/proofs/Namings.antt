@@ -3,6 +3,7 @@ use Rattle.std.proofs.Common.{◌≡◌, ℕ, suc, ◌+◌, ◌*◌, ◌<◌, �
 use borrow.Author.Tests.{eqb-false}
 use Rattle.std.proofs.lemmas.List.{at_drop_more, take_more_set, drop_all, drop-drop}
 use Rattle.std.proofs.lemmas.Bool.{and_parts}
+use Rattle.std.proofs.lemmas.List.Sums.{sum_by-cons}
 use Rattle.money.specs.declared.currency.Currency.{Currency}
 use Rattle.money.specs.Currencies.{currencies, place, is_same, currency_of}
 use Rattle.money.specs.Options.{before, every}
@@ -13,14 +14,6 @@ use Rattle.account.specs.Priorities.{times, names_each_once, named, priority_of}
 -- currencies that stand before others
 abbrev pub after : List Currency → Option (List Currency) → Option (List Currency)
 after ks o = before o (λ rest. Some (ks ++ rest))
-
--- HOW OFTEN A CURRENCY IS NAMED
-
-pub times-here : (c : Currency) (ds : List Currency) (i : ℕ) (d : Currency) → i < length ds → place c ≡ place (get_or ds i d) → times c (drop i ds) ≡ suc (times c (drop (i + 1) ds))
-times-here c ds i d lt e = at_drop_more (times c) ds i d lt ∙ rw (eq-eqb (place c) (place (get_or ds i d)) e)
-
-pub times-elsewhere : (c : Currency) (ds : List Currency) (i : ℕ) (d : Currency) → i < length ds → (place c ≡ place (get_or ds i d) → ⊥) → times c (drop i ds) ≡ times c (drop (i + 1) ds)
-times-elsewhere c ds i d lt e = at_drop_more (times c) ds i d lt ∙ rw (ne_eqb (place c) (place (get_or ds i d)) e)
 
 -- WHAT A TEXT NAMES
 
@@ -80,11 +73,7 @@ times_all (c ∷ cs) ds = times c ds + times_all cs ds
 
 all_more : (cs ds : List Currency) (d : Currency) → times_all cs (d ∷ ds) ≡ among d cs + times_all cs ds
 all_more [] ds d = refl
-all_more (c ∷ cs) ds d = by (is_same c d) (all_more cs ds d)
-  where
-    by : (b : Bool) → times_all cs (d ∷ ds) ≡ among d cs + times_all cs ds → cond b (suc (times c ds)) (times c ds) + times_all cs (d ∷ ds) ≡ (cond b 1 0 + among d cs) + (times c ds + times_all cs ds)
-    by true e = omega arith
-    by false e = omega arith
+all_more (c ∷ cs) ds d = omega (arith, sum_by-cons (λ x. cond (is_same c x) 1 0) d ds, all_more cs ds d)
 
 each-among : (d : Currency) → among d currencies ≡ 1
 each-among d = eqb-true (among d currencies) 1 (each (λ d. eqb (among d currencies) 1) refl d)

@@ -6,12 +6,13 @@ use Rattle.money.specs.declared.currency.Currency.{Currency}
 use Rattle.money.specs.Ranges.{within, figure_range, settlement_range, payment_range}
 use Rattle.account.specs.declared.account.AccountState.{AccountState}
 use Rattle.account.specs.declared.booking.Booking.{Booking}
-use Rattle.account.specs.declared.booking.Booking.TheVariants.{Deposit, Settlement, Limits, Margin, Callback}
-use Rattle.account.specs.declared.fault.AccountFault.{AccountFault}
+use Rattle.account.specs.declared.booking.Booking.TheVariants.{Deposit, Settlement, Limits, Margin, Callback as OfCallback}
+use Rattle.account.specs.declared.booking.Callback.{Callback}
 use Rattle.account.specs.declared.held.Account.{Account}
 use Rattle.account.specs.Accounts.{figures_in}
 use Rattle.account.specs.Amounts.{may_call_back}
 use Rattle.account.specs.Checks.{are_figures}
+use Rattle.account.specs.Faults.{AccountFault}
 
 -- what an account holds, without the invariant
 abbrev pub state_of : Account → AccountState
@@ -34,10 +35,10 @@ settlement_answer a c amount =
     (Err (fault_on a c OutOfRange))
 
 -- a callback, at the rate of its currency, from an account that stands at so much
-abbrev pub callback_answer : AccountState → Currency → ℤ → ℤ → ℤ → Result Unit AccountFault
-callback_answer a c amount rate standing =
-    cond (within payment_range amount)
-    (cond (may_call_back (figures_in a c) rate standing amount) (Ok tt) (Err (fault_on a c PastCeiling)))
+abbrev pub callback_answer : AccountState → Currency → Callback → Result Unit AccountFault
+callback_answer a c b =
+    cond (within payment_range b.amount)
+    (cond (may_call_back (figures_in a c) b.rate b.standing b.amount) (Ok tt) (Err (fault_on a c PastCeiling)))
     (Err (fault_on a c OutOfRange))
 
 abbrev pub limits_answer : AccountState → Currency → ℤ → ℤ → Result Unit AccountFault
@@ -52,7 +53,7 @@ booking_answer a c (Deposit amount) = deposit_answer a c amount
 booking_answer a c (Settlement amount) = settlement_answer a c amount
 booking_answer a c (Limits limit excess) = limits_answer a c limit excess
 booking_answer a c (Margin requirement non_cash) = margin_answer a c requirement non_cash
-booking_answer a c (Callback amount rate standing) = callback_answer a c amount rate standing
+booking_answer a c (OfCallback callback) = callback_answer a c callback
 
 -- what was where a call is refused, and what it makes where it is not
 abbrev pub chosen : {X E : Type 0} → Result Unit E → X → X → X

@@ -39,4 +39,4 @@ booking_change (Deposit amount) = deposit_booked amount
 booking_change (Settlement amount) = settlement_booked amount
 booking_change (Limits limit excess) = with_limits limit excess
 booking_change (Margin requirement non_cash) = with_margin requirement non_cash
-booking_change (Callback amount rate standing) = callback_booked amount
+booking_change (Callback callback) = callback_booked callback.amount

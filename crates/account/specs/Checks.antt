@@ -6,8 +6,7 @@ use Rattle.money.specs.declared.currency.Currency.{Currency}
 use Rattle.money.specs.declared.status.Status.{Status}
 use Rattle.money.specs.Ranges.{within, rate_range, figure_range, settlement_range, payment_range}
 use Rattle.money.specs.Statuses.{status_of}
-use Rattle.account.specs.declared.fault.AccountFault.{AccountFault}
-use Rattle.account.specs.Faults.{out_of_range}
+use Rattle.account.specs.Faults.{AccountFault, out_of_range}
 
 -- a test of figures passes, or they are refused as out of range
 abbrev pub range_answer : Bool → Option Code → Currency → Result Unit AccountFault

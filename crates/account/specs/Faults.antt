@@ -1,11 +1,16 @@
 -- What a fault of the account layer tells.
 use Rattle.std.specs.Prelude.{Option}
+use Rattle.money.specs.declared.cause.AccountCause.{AccountCause}
 use Rattle.money.specs.declared.cause.AccountCause.TheVariants.{OutOfRange}
 use Rattle.money.specs.declared.cause.Cause.TheVariants.{Account}
 use Rattle.money.specs.declared.code.Code.{Code}
 use Rattle.money.specs.declared.currency.Currency.{Currency}
+use Rattle.money.specs.declared.refusal.Fault.{Fault}
 use Rattle.money.specs.Refusals.{Told, tells}
-use Rattle.account.specs.declared.fault.AccountFault.{AccountFault}
+
+-- a fault of the account layer
+abbrev pub AccountFault : Type 0
+AccountFault = Fault AccountCause
 
 abbrev pub told : AccountFault → Told
 told f = tells (Account f.cause) f.code f.currency

@@ -6,6 +6,7 @@ use crate::account::AccountState;
 
 mod book;
 mod calls;
+mod holding;
 
 /// An account whose figures all lie in their ranges; no other can be made.
 #[derive(Clone, Copy)]

@@ -4,7 +4,7 @@ use Rattle.money.specs.declared.cause.Cause.{Cause}
 use Rattle.money.specs.declared.cause.Layer.{Layer}
 use Rattle.money.specs.declared.code.Code.{Code}
 use Rattle.money.specs.declared.currency.Currency.{Currency}
-use Rattle.money.specs.declared.refusal.Refusal.{Refusal}
+use Rattle.money.specs.declared.refusal.Fault.{Fault}
 use Rattle.money.specs.Causes.{number, layer, layer_name}
 use Rattle.money.specs.Codes.{shown_code}
 use Rattle.money.specs.Currencies.{letters}
@@ -18,6 +18,10 @@ pub record Told : Type 0 where
 abbrev pub tells : Cause → Option Code → Option Currency → Told
 tells cause code currency = record { number = number cause; layer = layer cause; code = code; currency = currency }
 
+-- a refusal as it is printed: a fault of any layer
+abbrev pub Refusal : Type 0
+Refusal = Fault Cause
+
 abbrev pub told : Refusal → Told
 told r = tells r.cause r.code r.currency
 
@@ -25,6 +29,11 @@ told r = tells r.cause r.code r.currency
 abbrev pub refusal_of : {X E : Type 0} → (E → Told) → Result X E → Option Told
 refusal_of tell (Ok x) = None
 refusal_of tell (Err f) = Some (tell f)
+
+-- what is shown of something, or a dash where there is nothing
+abbrev pub or_dash : {X : Type 0} → (X → Option (List ℕ)) → Option X → Option (List ℕ)
+or_dash show None = Some (codes "-")
+or_dash show (Some x) = show x
 
 abbrev pub code_or : Option Code → List ℕ
 code_or None = codes "-"

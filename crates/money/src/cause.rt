@@ -1,5 +1,6 @@
 //! The causes of refusal.
 ghost use Rattle.std.specs.Prelude.{◌≡◌, Some};
+ghost use Rattle.money.specs.declared.cause.Cause.TheVariants as causes;
 ghost use Rattle.money.specs.Causes.{book_number, account_number, number, layer, layer_name};
 
 use std::fmt;
@@ -12,48 +13,48 @@ pub enum Layer {
     Account,
 }
 
-/// What the book itself refuses for.
+/// What the book itself refuses for, each cause with the number that a refusal tells.
 #[derive(Clone, Copy)]
 pub enum BookCause {
     /// A run is open, and the call is neither a question nor a conclusion.
-    RunOpen,
+    RunOpen = 2,
     /// No run is open, or the numbers are not those of the book's run.
-    OtherRun,
+    OtherRun = 3,
     /// The account code has another form.
-    CodeForm,
+    CodeForm = 4,
     /// An opening names a code that is held already.
-    CodeHeld,
+    CodeHeld = 5,
     /// Another call names a code that is not held.
-    CodeAbsent,
+    CodeAbsent = 6,
     /// The currency is none of the book's.
-    CurrencyUnknown,
+    CurrencyUnknown = 7,
     /// The optimization number is out of range.
-    OptimizationNumber,
+    OptimizationNumber = 8,
     /// Level or setting is neither 1 nor 2.
-    LevelOrSetting,
+    LevelOrSetting = 9,
     /// The priority does not name every currency once.
-    PriorityForm,
+    PriorityForm = 10,
     /// The valuation does not admit the base currency.
-    BaseNotAdmitted,
+    BaseNotAdmitted = 11,
     /// A currency has no rate.
-    RateMissing,
+    RateMissing = 13,
     /// No more accounts, optimization numbers or runs can be held.
-    Full,
+    Full = 14,
     /// The optimization account is stopped by a failed debit.
-    Stopped,
+    Stopped = 16,
     /// A failed debit has no net debit in the run.
-    NoNetDebit,
+    NoNetDebit = 18,
 }
 
-/// What an account refuses for.
+/// What an account refuses for, each cause with the number that a refusal tells.
 #[derive(Clone, Copy)]
 pub enum AccountCause {
     /// A figure is outside its range.
-    OutOfRange,
+    OutOfRange = 12,
     /// Cash or open settlement would pass the bound.
-    PastBound,
+    PastBound = 15,
     /// A callback exceeds one of its ceilings.
-    PastCeiling,
+    PastCeiling = 17,
 }
 
 /// Every cause of refusal.
@@ -70,22 +71,7 @@ impl BookCause {
     pub fn number(self) -> u8
         ensures { result ≡ book_number self }
     {
-        match self {
-            BookCause::RunOpen => 2,
-            BookCause::OtherRun => 3,
-            BookCause::CodeForm => 4,
-            BookCause::CodeHeld => 5,
-            BookCause::CodeAbsent => 6,
-            BookCause::CurrencyUnknown => 7,
-            BookCause::OptimizationNumber => 8,
-            BookCause::LevelOrSetting => 9,
-            BookCause::PriorityForm => 10,
-            BookCause::BaseNotAdmitted => 11,
-            BookCause::RateMissing => 13,
-            BookCause::Full => 14,
-            BookCause::Stopped => 16,
-            BookCause::NoNetDebit => 18,
-        }
+        self as u8
     }
 }
 
@@ -94,11 +80,23 @@ impl AccountCause {
     pub fn number(self) -> u8
         ensures { result ≡ account_number self }
     {
-        match self {
-            AccountCause::OutOfRange => 12,
-            AccountCause::PastBound => 15,
-            AccountCause::PastCeiling => 17,
-        }
+        self as u8
+    }
+}
+
+impl From<BookCause> for Cause {
+    ghost from_gives = { λ cause r. r ≡ causes.Book cause };
+
+    fn from(cause: BookCause) -> Self {
+        Self::Book(cause)
+    }
+}
+
+impl From<AccountCause> for Cause {
+    ghost from_gives = { λ cause r. r ≡ causes.Account cause };
+
+    fn from(cause: AccountCause) -> Self {
+        Self::Account(cause)
     }
 }
 

@@ -1,6 +1,6 @@
 //! Account codes.
 ghost use Rattle.std.specs.Prelude.{◌≡◌, Some};
-ghost use Rattle.money.specs.Codes.{is_code_byte, formed, bytes_of, shown_code, of_eight, code_of};
+ghost use Rattle.money.specs.Codes.{is_code_byte, formed, bytes_of, shown_code, code_of};
 
 use std::fmt;
 
@@ -17,21 +17,14 @@ fn is_code_byte(b: u8) -> bool
 
 impl Code {
     /// The code that the text is, if it is eight characters A to Z or 0 to 9.
+    #[tactic(auto, unfolding(crate::specs::Codes::code_of))]
     pub fn read(text: &[u8]) -> Option<Code>
         ensures { result ≡ code_of text.now }
     {
-        Code::of_eight(text)
-    }
-
-    fn of_eight(text: &[u8]) -> Option<Code>
-        ensures { result ≡ of_eight text.now }
-    {
-        if text.len() != 8 {
+        let &[a, b, c, d, e, f, g, h] = text else {
             return None;
-        }
-        let code = Code(
-            text[0], text[1], text[2], text[3], text[4], text[5], text[6], text[7],
-        );
+        };
+        let code = Code(a, b, c, d, e, f, g, h);
         if code.is_formed() { Some(code) } else { None }
     }
 

@@ -5,7 +5,7 @@ ghost use Rattle.money.specs.Currencies.{place, letters, spelt, is_written, curr
 use std::fmt;
 
 /// A currency; the variants stand in book order.
-#[derive(Clone, Copy)]
+#[derive(Clone, Copy, PartialEq, Eq)]
 pub enum Currency {
     Gbp,
     Dkk,
@@ -51,15 +51,13 @@ impl Currency {
     }
 
     /// The currency that the text writes, if it is the letters of one.
+    #[tactic(auto, unfolding(crate::specs::Currencies::currency_of))]
     pub fn read(text: &[u8]) -> Option<Currency>
         ensures { result ≡ currency_of text.now }
     {
-        for currency in ALL {
-            if currency.is_written(text) {
-                return Some(currency);
-            }
-        }
-        None
+        ALL.iter()
+            .copied()
+            .find(|currency| currency.is_written(text))
     }
 
     fn characters(self) -> [char; 3]

@@ -7,3 +7,4 @@ pub mod currency;
 pub mod range;
 pub mod refusal;
 pub mod status;
+pub mod unknown;

@@ -1,46 +1,49 @@
 //! What a refusal tells.
-ghost use Rattle.money.specs.Refusals.{code_or, currency_or, told, shown_told};
-ghost use Rattle.std.specs.Prelude.{Some};
+ghost use Rattle.std.specs.Prelude.{◌≡◌, Some, ◌++◌};
+ghost use Rattle.money.specs.Refusals.{told, shown_told, or_dash};
 
 use crate::cause::Cause;
 use crate::code::Code;
 use crate::currency::Currency;
 use std::fmt;
 
-/// A refusal as it is printed: its cause, and the code and the currency of the call where they are well formed.
+/// A fault: its cause, and the code and the currency of the call where they are well formed.
 #[derive(Clone, Copy)]
-pub struct Refusal {
-    pub cause: Cause,
+pub struct Fault<C> {
+    pub cause: C,
     pub code: Option<Code>,
     pub currency: Option<Currency>,
 }
 
-/// A code, or `-` where none is told.
-#[derive(Clone, Copy)]
-struct CodeOr(Option<Code>);
+/// A refusal as it is printed: a fault of any layer.
+pub type Refusal = Fault<Cause>;
 
-impl fmt::Display for CodeOr {
-    ghost output = { λ c. Some (code_or c.0) };
-
-    fn fmt<W: fmt::Write>(&self, f: &mut fmt::Formatter<W>) -> fmt::Result {
-        match self.0 {
-            None => f.write_str("-"),
-            Some(code) => write!(f, "{code}"),
+impl<C: Into<Cause>> Fault<C> {
+    /// The refusal as it is printed.
+    pub fn refusal(self) -> Refusal
+        ensures cause { C.converts self.cause result.cause }
+        ensures code { result.code ≡ self.code }
+        ensures currency { result.currency ≡ self.currency }
+    {
+        Refusal {
+            cause: self.cause.into(),
+            code: self.code,
+            currency: self.currency,
         }
     }
 }
 
-/// A currency, or `-` where none is told.
+/// What is told, or `-` where it is not.
 #[derive(Clone, Copy)]
-struct CurrencyOr(Option<Currency>);
+struct OrDash<T>(Option<T>);
 
-impl fmt::Display for CurrencyOr {
-    ghost output = { λ c. Some (currency_or c.0) };
+impl<T: fmt::Display> fmt::Display for OrDash<T> {
+    ghost output = { λ o. or_dash T.output o.0 };
 
     fn fmt<W: fmt::Write>(&self, f: &mut fmt::Formatter<W>) -> fmt::Result {
-        match self.0 {
+        match &self.0 {
             None => f.write_str("-"),
-            Some(currency) => write!(f, "{currency}"),
+            Some(told) => write!(f, "{told}"),
         }
     }
 }
@@ -52,8 +55,8 @@ impl fmt::Display for Refusal {
     fn fmt<W: fmt::Write>(&self, f: &mut fmt::Formatter<W>) -> fmt::Result {
         let layer = self.cause.layer();
         let number = self.cause.number();
-        let code = CodeOr(self.code);
-        let currency = CurrencyOr(self.currency);
+        let code = OrDash(self.code);
+        let currency = OrDash(self.currency);
         write!(f, "{layer} {number} {code} {currency}")
     }
 }

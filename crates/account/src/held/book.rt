@@ -37,11 +37,7 @@ impl Account {
                 requirement,
                 non_cash,
             } => self.set_margin(currency, requirement, non_cash),
-            Booking::Callback {
-                amount,
-                rate,
-                standing,
-            } => self.call_back(currency, amount, rate, standing),
+            Booking::Callback(callback) => self.call_back(currency, callback),
         }
     }
 }

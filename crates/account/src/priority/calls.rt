@@ -53,23 +53,12 @@ fn read_order(text: &[u8]) -> Option<[Currency; COUNT]>
 fn names_each_once(order: &[Currency; COUNT]) -> bool
     ensures { result ≡ names_each_once order.now }
 {
-    for currency in ALL {
-        if times(currency, order) != 1 {
-            return false;
-        }
-    }
-    true
+    ALL.iter().all(|currency| times(*currency, order) == 1)
 }
 
 // How often the currency is named.
 fn times(currency: Currency, order: &[Currency; COUNT]) -> usize
     ensures { result ≡ times currency order.now }
 {
-    let mut count = 0;
-    for other in order {
-        if currency.index() == other.index() {
-            count += 1;
-        }
-    }
-    count
+    order.iter().filter(|other| currency == **other).count()
 }

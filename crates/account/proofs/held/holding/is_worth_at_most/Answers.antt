@@ -4,7 +4,7 @@ use mir.Syntax.{w128}
 use Rattle.std.proofs.lemmas.Int.{to_z-of_z}
 use Rattle.account.specs.Amounts.{is_worth_at_most}
 use Rattle.account.proofs.Ceilings.{product_wide}
-use Rattle.account.proofs.held.calls.is_worth_at_most.Goals as goal
+use Rattle.account.proofs.held.holding.is_worth_at_most.Goals as goal
 
 pub returns : goal.returns
 unfolding is_worth_at_most

@@ -1,0 +1,7 @@
+use Rattle.account.proofs.SoundAccounts.{sound-with}
+use Rattle.account.proofs.held.Account.put.Goals as goal
+
+pub invariant_of-self : goal.invariant_of-self
+invariant_of-self c = record {
+  soundness = simp c.index.ensures (sound-with c.args.self.now.state c.args.currency c.args.figures c.args.self.now.soundness c.requires);
+}
