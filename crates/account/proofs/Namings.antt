@@ -1,11 +1,11 @@
 -- The currencies that a text names, one after another.
-use Rattle.std.proofs.Common.{◌≡◌, ℕ, suc, ◌+◌, ◌*◌, ◌<◌, ◌≤◌, Bool, true, false, cond, eqb, List, [], ◌∷◌, ◌++◌, length, get_or, take, drop, set, Some, None, Option, sym, refl, ap, ◌∙◌, subst, append_assoc, append-nil, arith, length-drop, take_all, eq-eqb, ne_eqb, eqb-true}
+use Rattle.std.proofs.Common.{◌≡◌, ℕ, ◌+◌, ◌*◌, ◌<◌, ◌≤◌, Bool, true, false, cond, eqb, List, [], ◌∷◌, ◌++◌, length, take, set, Some, None, Option, sym, refl, ap, ◌∙◌, subst, append_assoc, append-nil, arith, take_all, eqb-true}
 use borrow.Author.Tests.{eqb-false}
-use Rattle.std.proofs.lemmas.List.{at_drop_more, take_more_set, drop_all, drop-drop}
+use Rattle.std.proofs.lemmas.List.{take_more_set}
 use Rattle.std.proofs.lemmas.Bool.{and_parts}
 use Rattle.std.proofs.lemmas.List.Sums.{sum_by-cons}
 use Rattle.money.specs.declared.currency.Currency.{Currency}
-use Rattle.money.specs.Currencies.{currencies, place, is_same, currency_of}
+use Rattle.money.specs.Currencies.{currencies, is_same, currency_of}
 use Rattle.money.specs.Options.{before, every}
 use Rattle.money.proofs.EachCurrency.{each}
 use Rattle.account.specs.Orders.{each_once, of_all}
@@ -17,36 +17,34 @@ after ks o = before o (λ rest. Some (ks ++ rest))
 
 -- WHAT A TEXT NAMES
 
-first-named : (text : List ℕ) → 3 ≤ length text → named text ≡ before (currency_of (take 3 text)) (λ k. after (k ∷ []) (named (drop 3 text)))
-first-named [] long = absurd (omega arith)
-first-named (a ∷ []) long = absurd (omega arith)
-first-named (a ∷ b ∷ []) long = absurd (omega arith)
-first-named (a ∷ b ∷ c ∷ text) long = refl
+first-named : (x rest : List ℕ) → length x ≡ 3 → named (x ++ rest) ≡ before (currency_of x) (λ k. after (k ∷ []) (named rest))
+first-named [] rest e = absurd (omega arith)
+first-named (a ∷ []) rest e = absurd (omega arith)
+first-named (a ∷ b ∷ []) rest e = absurd (omega arith)
+first-named (a ∷ b ∷ c ∷ []) rest e = refl
+first-named (a ∷ b ∷ c ∷ d ∷ x) rest e = absurd (omega arith)
 
 after_more : (ks : List Currency) (k : Currency) (o : Option (List Currency)) → after ks (after (k ∷ []) o) ≡ after (ks ++ (k ∷ [])) o
 after_more ks k None = refl
 after_more ks k (Some rest) = ap Some (sym (append_assoc ks (k ∷ []) rest))
 
 -- one more currency is read at its place
-pub named_more : (text : List ℕ) (order : List Currency) (i : ℕ) (k : Currency) → 3 * i + 3 ≤ length text → i < length order → named text ≡ after (take i order) (named (drop (3 * i) text)) → currency_of (take 3 (drop (3 * i) text)) ≡ Some k → named text ≡ after (take (i + 1) (set order i k)) (named (drop (3 * (i + 1)) text))
-named_more text order i k long lt before-it is =
-    let some : 3 ≤ length (drop (3 * i) text) = simp length-drop (omega arith) in
-    let next : drop 3 (drop (3 * i) text) ≡ drop (3 * (i + 1)) text = drop-drop 3 (3 * i) text ∙ ap (λ n. drop n text) (omega arith) in
-    before-it ∙ ap (after (take i order)) (first-named (drop (3 * i) text) some ∙ rw (is, next))
-    ∙ after_more (take i order) k (named (drop (3 * (i + 1)) text))
-    ∙ ap (λ ks. after ks (named (drop (3 * (i + 1)) text))) (sym (take_more_set order i k lt))
+pub named_more : (text x rest : List ℕ) (order : List Currency) (i : ℕ) (k : Currency) → i < length order → length x ≡ 3 → named text ≡ after (take i order) (named (x ++ rest)) → currency_of x ≡ Some k → named text ≡ after (take (i + 1) (set order i k)) (named rest)
+named_more text x rest order i k lt three before-it is =
+    before-it ∙ ap (after (take i order)) (first-named x rest three ∙ rw is)
+    ∙ after_more (take i order) k (named rest)
+    ∙ ap (λ ks. after ks (named rest)) (sym (take_more_set order i k lt))
 
 -- and where it is none, the text names no currencies
-pub named_none : (text : List ℕ) (ks : List Currency) (i : ℕ) → i + 3 ≤ length text → named text ≡ after ks (named (drop i text)) → currency_of (take 3 (drop i text)) ≡ None → named text ≡ None
-named_none text ks i long before-it is =
-    let some : 3 ≤ length (drop i text) = simp length-drop (omega arith) in
-    let none : named (drop i text) ≡ None = first-named (drop i text) some ∙ rw is in
+pub named_none : (text x rest : List ℕ) (ks : List Currency) → length x ≡ 3 → named text ≡ after ks (named (x ++ rest)) → currency_of x ≡ None → named text ≡ None
+named_none text x rest ks three before-it is =
+    let none : named (x ++ rest) ≡ None = first-named x rest three ∙ rw is in
     before-it ∙ ap (after ks) none
 
 -- at the end all are read
-pub named-all : (text : List ℕ) (order : List Currency) (i n : ℕ) → length text ≤ n → length order ≤ i → named text ≡ after (take i order) (named (drop n text)) → named text ≡ Some order
-named-all text order i n end all before-it =
-    before-it ∙ rw (drop_all n text end, take_all i order all) (ap Some (append-nil order))
+pub named-all : (text rest : List ℕ) (order : List Currency) (i : ℕ) → length rest ≡ 0 → length order ≤ i → named text ≡ after (take i order) (named rest) → named text ≡ Some order
+named-all text [] order i end all before-it = before-it ∙ rw (take_all i order all) (ap Some (append-nil order))
+named-all text (a ∷ rest) order i end all before-it = absurd (omega arith)
 
 -- HOW LONG IT IS
 

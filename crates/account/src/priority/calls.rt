@@ -43,9 +43,8 @@ fn read_order(text: &[u8]) -> Option<[Currency; COUNT]>
         return None;
     }
     let mut order = ALL;
-    for place in 0..COUNT {
-        let start = LETTERS * place;
-        order[place] = Currency::read(&text[start..start + LETTERS])?;
+    for (place, letters) in text.chunks_exact(LETTERS).enumerate() {
+        order[place] = Currency::read(letters)?;
     }
     Some(order)
 }
