@@ -15,12 +15,6 @@ impl Priority {
     pub fn read(text: &[u8]) -> Option<Priority>
         ensures { order_in result ≡ priority_of text.now }
     {
-        Priority::read_all(text)
-    }
-
-    fn read_all(text: &[u8]) -> Option<Priority>
-        ensures { order_in result ≡ before (of_all text.now) each_once }
-    {
         Priority::of_order(read_order(text)?)
     }
 
