@@ -7,5 +7,5 @@ use Rattle.request.specs.declared.fault.BookFault.TheVariants.{Own, Account}
 
 -- a fault of the account layer passes upward with all its parts
 abbrev pub told : BookFault → Told
-told (Own cause code currency) = tells (Book cause) code currency
+told (Own f) = tells (Book f.cause) f.code f.currency
 told (Account f) = told_by_account f

@@ -26,7 +26,7 @@ with_currency s currency = record { code = s.code; currency = Some currency }
 
 -- a fault tells what the call names
 abbrev pub fault_of : Subject → BookCause → BookFault
-fault_of s cause = Own cause s.code s.currency
+fault_of s cause = Own (record { cause = cause; code = s.code; currency = s.currency })
 
 abbrev pub code_answer : Subject → Result Code BookFault
 code_answer s = ok_or s.code (fault_of s CodeForm)

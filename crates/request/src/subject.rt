@@ -6,6 +6,7 @@ use crate::fault::BookFault;
 use money::cause::BookCause;
 use money::code::Code;
 use money::currency::Currency;
+use money::refusal::Fault;
 
 /// The code and the currency of a call, each where it is well formed: what every refusal of the call tells.
 /// The currency of an opening is its base.
@@ -61,11 +62,11 @@ impl Subject {
     pub fn fault(self, cause: BookCause) -> BookFault
         ensures { result ≡ fault_of self cause }
     {
-        BookFault::Own {
+        BookFault::Own(Fault {
             cause,
             code: self.code,
             currency: self.currency,
-        }
+        })
     }
 
     /// The code, which has to be well formed.

@@ -28,8 +28,8 @@ impl Terms {
         let base = subject.known_currency()?;
         let number = read_number(subject, number)?;
         let no_term = subject.fault(BookCause::LevelOrSetting);
-        let level = Level::read(level).ok_or(no_term)?;
-        let setting = DebitSetting::read(setting).ok_or(no_term)?;
+        let level = Level::try_from(level).map_err(|_| no_term)?;
+        let setting = DebitSetting::try_from(setting).map_err(|_| no_term)?;
         let priority = Priority::read(priority).ok_or(subject.fault(BookCause::PriorityForm))?;
         Ok(Terms {
             number,
