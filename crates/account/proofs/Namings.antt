@@ -1,9 +1,10 @@
 -- The currencies that a text names, one after another.
-use Rattle.std.proofs.Common.{◌≡◌, ℕ, ◌+◌, ◌*◌, ◌<◌, ◌≤◌, Bool, true, false, cond, eqb, List, [], ◌∷◌, ◌++◌, length, take, set, Some, None, Option, sym, refl, ap, ◌∙◌, subst, append_assoc, append-nil, arith, take_all, eqb-true}
+use Rattle.std.proofs.Common.{◌≡◌, ℕ, suc, ◌+◌, ◌*◌, ◌<◌, ◌≤◌, Bool, true, false, cond, eqb, List, [], ◌∷◌, ◌++◌, length, take, set, Some, None, Option, sym, refl, ap, ◌∙◌, subst, append_assoc, append-nil, arith, take_all, eqb-true}
 use borrow.Author.Tests.{eqb-false}
 use Rattle.std.proofs.lemmas.List.{take_more_set}
 use Rattle.std.proofs.lemmas.Bool.{and_parts}
-use Rattle.std.proofs.lemmas.List.Sums.{sum_by-cons}
+use Rattle.std.proofs.lemmas.List.Recursion.{is_count_by}
+use Rattle.std.specs.List.{count_by}
 use Rattle.money.specs.declared.currency.Currency.{Currency}
 use Rattle.money.specs.Currencies.{currencies, is_same, currency_of}
 use Rattle.money.specs.Options.{before, every}
@@ -14,6 +15,11 @@ use Rattle.account.specs.Priorities.{times, names_each_once, named, priority_of}
 -- currencies that stand before others
 abbrev pub after : List Currency → Option (List Currency) → Option (List Currency)
 after ks o = before o (λ rest. Some (ks ++ rest))
+
+-- HOW OFTEN A CURRENCY IS NAMED
+
+pub counted : (k : Currency) (order : List Currency) → times k order ≡ count_by (is_same k) order
+counted k order = is_count_by (times k) (is_same k) refl (λ x xs. let one : suc (times k xs) ≡ 1 + times k xs = omega arith in ap (λ n. cond (is_same k x) n (times k xs)) one) order
 
 -- WHAT A TEXT NAMES
 
@@ -71,7 +77,11 @@ times_all (c ∷ cs) ds = times c ds + times_all cs ds
 
 all_more : (cs ds : List Currency) (d : Currency) → times_all cs (d ∷ ds) ≡ among d cs + times_all cs ds
 all_more [] ds d = refl
-all_more (c ∷ cs) ds d = omega (arith, sum_by-cons (λ x. cond (is_same c x) 1 0) d ds, all_more cs ds d)
+all_more (c ∷ cs) ds d = by (is_same c d) (all_more cs ds d)
+  where
+    by : (b : Bool) → times_all cs (d ∷ ds) ≡ among d cs + times_all cs ds → cond b (suc (times c ds)) (times c ds) + times_all cs (d ∷ ds) ≡ (cond b 1 0 + among d cs) + (times c ds + times_all cs ds)
+    by true e = omega arith
+    by false e = omega arith
 
 each-among : (d : Currency) → among d currencies ≡ 1
 each-among d = eqb-true (among d currencies) 1 (each (λ d. eqb (among d currencies) 1) refl d)

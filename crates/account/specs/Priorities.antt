@@ -1,12 +1,13 @@
 -- The order in which the currencies of an account are gone through.
-use Rattle.std.specs.Prelude.{ℕ, Bool, cond, List, [], ◌∷◌, ◌++◌, Some, None, Option, nat_eq, count_by}
+use Rattle.std.specs.Prelude.{ℕ, suc, Bool, cond, List, [], ◌∷◌, ◌++◌, Some, None, Option, nat_eq}
 use Rattle.money.specs.declared.currency.Currency.{Currency}
 use Rattle.money.specs.Currencies.{currencies, currency_of, is_same, letters}
 use Rattle.money.specs.Options.{before, every}
 
 -- how often a currency is named
 abbrev pub times : Currency → List Currency → ℕ
-times c ds = count_by (is_same c) ds
+times c [] = 0
+times c (d ∷ ds) = cond (is_same c d) (suc (times c ds)) (times c ds)
 
 -- each currency is named once
 abbrev pub names_each_once : List Currency → Bool

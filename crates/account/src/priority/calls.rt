@@ -1,7 +1,8 @@
 //! How a priority is read.
-ghost use Rattle.std.specs.Prelude.{◌≡◌};
+ghost use Rattle.std.specs.Prelude.{◌≡◌, count_by};
 ghost use Rattle.account.specs.Orders.{order_in, each_once, of_all};
-ghost use Rattle.account.specs.Priorities.{times, names_each_once, priority_of};
+ghost use Rattle.account.specs.Priorities.{names_each_once, priority_of};
+ghost use Rattle.money.specs.Currencies.{is_same};
 ghost use Rattle.money.specs.Options.{before};
 
 use super::Priority;
@@ -51,7 +52,7 @@ fn names_each_once(order: &[Currency; COUNT]) -> bool
 
 // How often the currency is named.
 fn times(currency: Currency, order: &[Currency; COUNT]) -> usize
-    ensures { result ≡ times currency order.now }
+    ensures { result ≡ count_by (is_same currency) order.now }
 {
     order.iter().filter(|other| currency == **other).count()
 }
