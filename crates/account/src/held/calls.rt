@@ -68,13 +68,12 @@ impl Account {
         if !PAYMENT.holds(amount) {
             return Err(self.fault_on(currency, AccountCause::OutOfRange));
         }
-        let cash = self.holding(currency).cash_with(amount);
+        let holding = self.holding(currency);
+        let cash = holding.cash_with(amount);
         if !FIGURE.holds(cash) {
             return Err(self.fault_on(currency, AccountCause::PastBound));
         }
-        let mut raised = self.figures(currency);
-        raised.cash = cash;
-        self.put(currency, raised);
+        self.put(currency, holding.with_cash(cash));
         Ok(())
     }
 
@@ -87,13 +86,12 @@ impl Account {
         if !SETTLEMENT.holds(amount) {
             return Err(self.fault_on(currency, AccountCause::OutOfRange));
         }
-        let settlement = self.holding(currency).settlement_with(amount);
+        let holding = self.holding(currency);
+        let settlement = holding.settlement_with(amount);
         if !SETTLEMENT.holds(settlement) {
             return Err(self.fault_on(currency, AccountCause::PastBound));
         }
-        let mut settled = self.figures(currency);
-        settled.settlement = settlement;
-        self.put(currency, settled);
+        self.put(currency, holding.with_settlement(settlement));
         Ok(())
     }
 
@@ -110,10 +108,8 @@ impl Account {
         if !are_figures(limit, excess) {
             return Err(self.fault_on(currency, AccountCause::OutOfRange));
         }
-        let mut limited = self.figures(currency);
-        limited.limit = limit;
-        limited.excess = excess;
-        self.put(currency, limited);
+        let holding = self.holding(currency);
+        self.put(currency, holding.with_limits(limit, excess));
         Ok(())
     }
 
@@ -130,10 +126,8 @@ impl Account {
         if !are_figures(requirement, non_cash) {
             return Err(self.fault_on(currency, AccountCause::OutOfRange));
         }
-        let mut margin = self.figures(currency);
-        margin.requirement = requirement;
-        margin.non_cash = non_cash;
-        self.put(currency, margin);
+        let holding = self.holding(currency);
+        self.put(currency, holding.with_margin(requirement, non_cash));
         Ok(())
     }
 
@@ -189,24 +183,22 @@ impl Account {
         if !holding.grants(callback) {
             return Err(self.fault_on(currency, AccountCause::PastCeiling));
         }
-        let cash = holding.cash_less(callback.amount);
-        let mut lowered = self.figures(currency);
-        lowered.cash = cash;
-        self.put(currency, lowered);
+        self.put(currency, holding.call_back(callback));
         Ok(())
     }
 
     fn holding(&self, currency: Currency) -> Holding
         ensures { result.figures ≡ figures_in (state_of self.now) currency }
     {
-        Holding::new(self.figures(currency))
+        Holding {
+            figures: self.figures(currency),
+        }
     }
 
-    fn put(&mut self, currency: Currency, figures: Figures)
-        requires { Ranged figures }
-        ensures { state_of self.new ≡ with_figures (state_of self.old) currency figures }
+    fn put(&mut self, currency: Currency, holding: Holding)
+        ensures { state_of self.new ≡ with_figures (state_of self.old) currency holding.figures }
     {
-        self.state.figures[currency.index()] = figures;
+        self.state.figures[currency.index()] = holding.figures;
     }
 }
 

@@ -1,8 +1,10 @@
 //! What an account holds in one currency.
-ghost use Rattle.std.specs.Prelude.{◌≡◌, true, ◌+ℤ◌, ◌-ℤ◌, neg_ℤ, ◌≤ℤ◌};
-ghost use Rattle.account.specs.Accounts.{Ranged};
-ghost use Rattle.account.specs.Amounts.{standing_amount, free_cash, is_worth_at_most, may_call_back};
-ghost use Rattle.money.specs.Ranges.{bound, within, payment_range};
+ghost use Rattle.std.specs.Prelude.{◌≡◌, true, ◌&&◌, ◌+ℤ◌, ◌-ℤ◌, neg_ℤ, ◌≤ℤ◌, int_le};
+ghost use Rattle.account.specs.Accounts.{Ranged, UpToBound};
+ghost use Rattle.account.specs.Amounts.{due_to_house, standing_amount, free_cash, is_worth_at_most, may_call_back};
+ghost use Rattle.account.specs.Bookings.{callback_booked, with_cash, with_settlement, with_limits, with_margin};
+ghost use Rattle.account.specs.Checks.{are_figures};
+ghost use Rattle.money.specs.Ranges.{bound, within, figure_range, payment_range, settlement_range};
 
 use crate::account::Figures;
 use crate::booking::Callback;
@@ -10,18 +12,11 @@ use crate::booking::Callback;
 /// Figures that all lie in their ranges.
 #[derive(Clone, Copy)]
 pub(crate) struct Holding {
-    figures: Figures,
+    pub(crate) figures: Figures,
     ghost ranged: { Ranged figures },
 }
 
 impl Holding {
-    pub(crate) fn new(figures: Figures) -> Holding
-        requires { Ranged figures }
-        ensures { result.figures ≡ figures }
-    {
-        Holding { figures }
-    }
-
     pub(crate) fn standing_amount(self) -> i64
         ensures { result ≡ standing_amount self.figures }
     {
@@ -35,16 +30,34 @@ impl Holding {
         (cash - limit) + (non_cash - requirement)
     }
 
+    fn due_to_house(self) -> i64
+        ensures answer { result ≡ due_to_house self.figures }
+        ensures ranged { UpToBound result }
+    {
+        self.figures.due_to_house()
+    }
+
     fn free_cash(self) -> i64
         ensures { result ≡ free_cash self.figures }
     {
-        let Figures {
-            cash,
-            limit,
-            settlement,
-            ..
-        } = self.figures;
-        (cash - limit) - settlement.max(0)
+        let Figures { cash, limit, .. } = self.figures;
+        (cash - limit) - self.due_to_house()
+    }
+
+    // The three ceilings of a callback.
+    pub(crate) fn grants(self, callback: Callback) -> bool
+        ensures { result ≡ may_call_back self.figures callback.rate callback.standing callback.amount }
+    {
+        callback.is_within(self.free_cash(), self.standing_amount())
+    }
+
+    // What is left by a callback that is granted.
+    pub(crate) fn call_back(self, callback: Callback) -> Holding
+        requires payment { within payment_range callback.amount ≡ true }
+        requires granted { may_call_back self.figures callback.rate callback.standing callback.amount ≡ true }
+        ensures { result.figures ≡ callback_booked callback.amount self.figures }
+    {
+        self.with_cash(self.cash_less(callback.amount))
     }
 
     // The cash after a payment in.
@@ -55,8 +68,7 @@ impl Holding {
         self.figures.cash + amount
     }
 
-    // The cash after a payment out.
-    pub(crate) fn cash_less(self, amount: i64) -> i64
+    fn cash_less(self, amount: i64) -> i64
         requires { within payment_range amount ≡ true }
         ensures { result ≡ self.figures.cash -ℤ amount }
     {
@@ -71,14 +83,49 @@ impl Holding {
         self.figures.settlement + amount
     }
 
-    // The three ceilings of a callback.
-    pub(crate) fn grants(self, callback: Callback) -> bool
-        ensures { result ≡ may_call_back self.figures callback.rate callback.standing callback.amount }
+    pub(crate) fn with_cash(mut self, cash: i64) -> Holding
+        requires { within figure_range cash ≡ true }
+        ensures { result.figures ≡ with_cash cash self.figures }
     {
-        let free = self.free_cash();
-        let stood = self.standing_amount();
-        let covered = is_worth_at_most(callback.amount, callback.rate, callback.standing);
-        callback.amount <= free && callback.amount <= stood && covered
+        self.figures.cash = cash;
+        self
+    }
+
+    pub(crate) fn with_settlement(mut self, settlement: i64) -> Holding
+        requires { within settlement_range settlement ≡ true }
+        ensures { result.figures ≡ with_settlement settlement self.figures }
+    {
+        self.figures.settlement = settlement;
+        self
+    }
+
+    pub(crate) fn with_limits(mut self, limit: i64, excess: i64) -> Holding
+        requires { are_figures limit excess ≡ true }
+        ensures { result.figures ≡ with_limits limit excess self.figures }
+    {
+        self.figures.limit = limit;
+        self.figures.excess = excess;
+        self
+    }
+
+    pub(crate) fn with_margin(mut self, requirement: i64, non_cash: i64) -> Holding
+        requires { are_figures requirement non_cash ≡ true }
+        ensures { result.figures ≡ with_margin requirement non_cash self.figures }
+    {
+        self.figures.requirement = requirement;
+        self.figures.non_cash = non_cash;
+        self
+    }
+}
+
+impl Callback {
+    // Whether the amount is at most the free cash and what the account stands on, and worth at most the standing.
+    fn is_within(self, free: i64, stood: i64) -> bool
+        ensures { result ≡ (int_le self.amount free && int_le self.amount stood && is_worth_at_most self.amount self.rate self.standing) }
+    {
+        self.amount <= free
+            && self.amount <= stood
+            && is_worth_at_most(self.amount, self.rate, self.standing)
     }
 }
 
