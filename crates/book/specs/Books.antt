@@ -3,6 +3,7 @@ use Rattle.std.specs.Prelude.{Bool, true, false, [], Some, None, Ok, Err, Option
 use Rattle.money.specs.declared.cause.BookCause.TheVariants.{RunOpen, CurrencyUnknown}
 use Rattle.money.specs.declared.currency.Currency.{Currency}
 use Rattle.history.specs.States.{State, is_running}
+use Rattle.quotes.specs.Quoted.{rates_in, statuses_in}
 use Rattle.book.specs.declared.book.Book.{Book}
 use Rattle.request.specs.declared.fault.BookFault.{BookFault}
 use Rattle.request.specs.declared.fault.BookFault.TheVariants.{Own}
@@ -10,8 +11,8 @@ use Rattle.request.specs.declared.fault.BookFault.TheVariants.{Own}
 abbrev pub meaning : {V : Type 0} → Book V → State
 meaning b = record {
   number = b.number;
-  rates = b.rates;
-  statuses = b.statuses;
+  rates = rates_in b.quotes;
+  statuses = statuses_in b.quotes;
   accounts = [];
   optimizations = [];
   running = b.running;

@@ -8,20 +8,20 @@ ghost use Rattle.history.specs.Steps.{unless};
 ghost use Rattle.money.specs.Currencies.{currency_of};
 ghost use Rattle.money.specs.Refusals.{refusal_of};
 
-use account::check::{check_rate, read_status};
+use account::check::read_status;
 use history::run::OpenRun;
 use money::cause::BookCause;
-use money::currency::{COUNT, Currency};
-use money::status::Status;
+use money::currency::Currency;
+use quotes::quotes::Quotes;
 use request::fault::BookFault;
+use request::subject::Subject;
 
 /// A book of one member, with the valuation that it has for life.
 #[derive(Drop)]
 pub struct Book<V> {
     number: u32,
     valuation: V,
-    rates: [Option<i64>; COUNT],
-    statuses: [Status; COUNT],
+    quotes: Quotes,
     running: Option<OpenRun>,
     runs: u32,
 }
@@ -35,8 +35,7 @@ impl<V> Book<V> {
         Book {
             number,
             valuation,
-            rates: [None; COUNT],
-            statuses: [Status::Open; COUNT],
+            quotes: Quotes::new(),
             running: None,
             runs: 0,
         }
@@ -49,8 +48,7 @@ impl<V> Book<V> {
         ensures valued { self.new.valuation ≡ self.old.valuation }
     {
         let currency = self.open_for(currency)?;
-        check_rate(currency, rate)?;
-        self.rates[currency.index()] = Some(rate);
+        self.quotes.set_rate(currency, rate)?;
         Ok(())
     }
 
@@ -62,7 +60,7 @@ impl<V> Book<V> {
     {
         let currency = self.open_for(currency)?;
         let status = read_status(currency, flag)?;
-        self.statuses[currency.index()] = status;
+        self.quotes.set_status(currency, status);
         Ok(())
     }
 
@@ -70,21 +68,10 @@ impl<V> Book<V> {
     fn open_for(&self, currency: &[u8]) -> Result<Currency, BookFault>
         ensures { result ≡ call_currency (meaning self.now) (currency_of currency.now) }
     {
-        let currency = Currency::read(currency);
+        let subject = Subject::of_currency(currency);
         if self.running.is_some() {
-            return Err(BookFault::Own {
-                cause: BookCause::RunOpen,
-                code: None,
-                currency,
-            });
+            return Err(subject.fault(BookCause::RunOpen));
         }
-        match currency {
-            Some(currency) => Ok(currency),
-            None => Err(BookFault::Own {
-                cause: BookCause::CurrencyUnknown,
-                code: None,
-                currency: None,
-            }),
-        }
+        subject.known_currency()
     }
 }

@@ -5,14 +5,9 @@ use processor::check::check_sheet;
 use processor::print::LIMIT;
 use std::io::Read;
 
-fn run(rt: &HostRuntime) -> anyhow::Result<()> {
+fn main(rt: HostRuntime) -> anyhow::Result<()> {
     let mut input = Vec::new(rt.alloc());
     rt.stdin().take(LIMIT as u64).read_to_end(&mut input)?;
     let text = check_sheet(rt.alloc(), input.as_slice())?;
-    rt.print(text)?;
-    Ok(())
-}
-
-fn main(rt: HostRuntime) -> anyhow::Result<()> {
-    run(&rt)
+    Ok(rt.print(text)?)
 }

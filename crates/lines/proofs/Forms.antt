@@ -1,5 +1,5 @@
 -- What is read of a line is what it was written from, and the other way round.
-use Rattle.std.proofs.Common.{◌≡◌, ℕ, ◌≤◌, Bool, true, false, cond, eqb, leb, List, [], ◌∷◌, ◌++◌, length, get_or, drop, ℤ, Some, Option, sym, refl, ap, ◌∙◌, subst, append_assoc, arith, length-append, eq-eqb, eqb-true, le-leb, leb-true}
+use Rattle.std.proofs.Common.{◌≡◌, ℕ, ◌≤◌, Bool, true, false, cond, eqb, leb, List, [], ◌∷◌, ◌++◌, length, ℤ, Some, Ok, Err, Option, Result, sym, refl, ap, ◌∙◌, subst, append_assoc, arith, length-append, eqb-true, le-leb, leb-true}
 use Rattle.std.proofs.lemmas.List.{nil_from_length}
 use Rattle.std.specs.Fmt.{signed_decimal}
 use Rattle.text.specs.Cuts.{cut_at, Free}
@@ -7,12 +7,10 @@ use Rattle.text.specs.Numbers.{Short}
 use Rattle.text.proofs.CutLaws.{cut-says, cut-reads, free-joined}
 use Rattle.text.proofs.Spellings.{some_same, before-some, if-then, number-free}
 use Rattle.lines.specs.Lines.{Line, rate, holiday, letter, fields, ended, Word, Good, Form, text_number, of_text_number, fielded, lettered, body_of, parsed}
+use Rattle.lines.specs.declared.entry.Entry.{Entry}
+use Rattle.lines.specs.declared.fault.SheetFault.{SheetFault}
+use Rattle.lines.specs.Entries.{meant, entry_of, Exactly}
 use Rattle.lines.proofs.Shapes.{tabs, text_number-reads, text_number-says}
-
-pub lettered-tab : (b : List ℕ) → 2 ≤ length b → get_or b 1 0 ≡ 9 → lettered b ≡ fielded (get_or b 0 0) (drop 2 b)
-lettered-tab [] long tab = absurd (omega arith)
-lettered-tab (l ∷ []) long tab = absurd (omega arith)
-lettered-tab (l ∷ t ∷ fs) long tab = rw (eq-eqb t 9 tab)
 
 -- what is written before the line feed
 abbrev bodied : ℕ → List (List ℕ) → List ℕ
@@ -123,3 +121,7 @@ form-says bytes x e =
       long = omega (arith, ap length whole, length-append p.0 (10 ∷ []), short);
       text = bodied-is (letter x) (fields x) ∙ ap (λ b. b ++ (10 ∷ [])) s.text ∙ sym whole;
     }
+
+pub exactly : (bytes : List ℕ) (r : Result Entry SheetFault) → entry_of r ≡ parsed bytes → Exactly bytes r
+exactly bytes (Ok e) is = form-says bytes (meant e) (sym is)
+exactly bytes (Err f) is = λ x h. let p = form-reads bytes x h in let z : ◌≡◌ {A = ℕ} 0 1 = cc in omega arith

@@ -1,16 +1,11 @@
 -- Records, and the lines that they stand for.
-use Rattle.std.specs.Prelude.{ℕ, Bool, true, cond, List, ◌++◌, Some, None, codes, Option, Result}
-use Rattle.std.specs.Option.{ok_or}
+use Rattle.std.specs.Prelude.{ℕ, Bool, true, cond, List, ◌++◌, Some, None, codes, Option}
 use Rattle.std.specs.Fmt.{signed_decimal}
-use Rattle.money.specs.declared.cause.BookCause.TheVariants.{CurrencyUnknown}
-use Rattle.money.specs.declared.currency.Currency.{Currency}
 use Rattle.money.specs.Currencies.{letters, currency_of}
 use Rattle.money.specs.Options.{before}
 use Rattle.money.specs.Ranges.{within, rate_range}
 use Rattle.money.specs.Refusals.{Told}
 use Rattle.money.specs.Statuses.{flag_of, status_of}
-use Rattle.request.specs.declared.fault.BookFault.{BookFault}
-use Rattle.request.specs.declared.fault.BookFault.TheVariants.{Own}
 use Rattle.history.specs.Bookings.{rate_faults, holiday_faults}
 use Rattle.request.specs.Causes.{first_told}
 use Rattle.lines.specs.declared.record.Record.{Record}
@@ -31,10 +26,6 @@ shown_record (Holiday c status) = codes "H\t" ++ (letters c ++ (codes "\t" ++ (s
 abbrev pub sound : Record → Bool
 sound (Rate c x) = within rate_range x
 sound (Holiday c status) = true
-
--- the currency that a text writes, or the fault
-abbrev pub known : List ℕ → Result Currency BookFault
-known text = ok_or (currency_of text) (Own CurrencyUnknown None None)
 
 -- what bars a line in form: the first fault that its own fields have, whatever book it meets
 abbrev pub barred_for : Line → Option Told

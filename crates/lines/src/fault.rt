@@ -1,7 +1,7 @@
 //! What the sheet refuses.
 ghost use Rattle.std.specs.Prelude.{◌≡◌};
 ghost use Rattle.lines.specs.Faults.{told, of_book};
-ghost use Rattle.money.specs.Refusals.{told as toldBy};
+ghost use Rattle.money.specs.Refusals.{told as told_by_refusal};
 
 use money::cause::Cause;
 use money::refusal::Refusal;
@@ -9,36 +9,25 @@ use request::fault::BookFault;
 
 /// Why a line is refused.
 #[derive(Clone, Copy)]
-pub enum SheetCause {
+pub enum SheetFault {
     /// It has the form of no line.
     Form,
     /// The book refuses the call, with all that its fault tells.
     Book(BookFault),
 }
 
-/// A fault of a line.
-#[derive(Clone, Copy)]
-pub struct SheetFault {
-    pub cause: SheetCause,
-}
-
 impl SheetFault {
-    /// The fault of a line that has the form of none.
-    pub const FORM: SheetFault = SheetFault {
-        cause: SheetCause::Form,
-    };
-
     /// The refusal as it is printed.
     pub fn refusal(self) -> Refusal
-        ensures { toldBy result ≡ told self }
+        ensures { told_by_refusal result ≡ told self }
     {
-        match self.cause {
-            SheetCause::Form => Refusal {
+        match self {
+            SheetFault::Form => Refusal {
                 cause: Cause::LineForm,
                 code: None,
                 currency: None,
             },
-            SheetCause::Book(fault) => fault.refusal(),
+            SheetFault::Book(fault) => fault.refusal(),
         }
     }
 }
@@ -47,8 +36,6 @@ impl From<BookFault> for SheetFault {
     ghost from_gives = { λ f r. r ≡ of_book f };
 
     fn from(fault: BookFault) -> SheetFault {
-        SheetFault {
-            cause: SheetCause::Book(fault),
-        }
+        SheetFault::Book(fault)
     }
 }

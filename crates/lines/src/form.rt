@@ -2,7 +2,7 @@
 ghost use Rattle.std.specs.Prelude.{◌≡◌};
 ghost use Rattle.lines.specs.Entries.{held_text_number, heard, entry_of, Exactly};
 ghost use Rattle.lines.specs.Faults.{told};
-ghost use Rattle.lines.specs.Lines.{text_number, fielded, lettered, body_of, parsed, form_fault};
+ghost use Rattle.lines.specs.Lines.{text_number, fielded, body_of, parsed, form_fault};
 ghost use Rattle.money.specs.Refusals.{refusal_of};
 ghost use Rattle.std.specs.Option.{option_map};
 
@@ -37,38 +37,29 @@ fn field_line(letter: u8, fields: &[u8]) -> Option<Entry<'_>>
     }
 }
 
-fn parts(body: &[u8]) -> Option<Entry<'_>>
-    ensures { heard result ≡ lettered body.now }
-{
-    if let [letter, b'\t', fields @ ..] = body {
-        return field_line(*letter, fields);
-    }
-    None
-}
-
 fn body_of(line: &[u8]) -> Option<&[u8]>
     ensures { option_map (λ x. x.now) result ≡ body_of line.now }
 {
     let (body, rest) = cut(line, b'\n')?;
-    if rest.is_empty() {
-        if body.len() <= LONGEST {
-            return Some(body);
-        }
-    }
-    None
+    (rest.is_empty() && body.len() <= LONGEST).then_some(body)
 }
 
+#[tactic(auto, unfolding(crate::specs::Lines::parsed))]
 fn parse(line: &[u8]) -> Option<Entry<'_>>
     ensures { heard result ≡ parsed line.now }
 {
-    parts(body_of(line)?)
+    match body_of(line)? {
+        [letter, b'\t', fields @ ..] => field_line(*letter, fields),
+        _ => None,
+    }
 }
 
 /// The entry that a line with its line feed writes, or the fault of its form.
+#[tactic(auto, using(crate::proofs::Forms::exactly))]
 pub fn form(line: &[u8]) -> Result<Entry<'_>, SheetFault>
     ensures answer { refusal_of told result ≡ form_fault (parsed line.now) }
     ensures reading { entry_of result ≡ parsed line.now }
     ensures exact { Exactly line.now result }
 {
-    parse(line).ok_or(SheetFault::FORM)
+    parse(line).ok_or(SheetFault::Form)
 }

@@ -4,8 +4,8 @@ ghost use Rattle.request.specs.Faults.{told as told_by_book};
 ghost use Rattle.lines.specs.Admissions.{barred, admission, Exactly};
 ghost use Rattle.lines.specs.Entries.{meant};
 ghost use Rattle.lines.specs.Faults.{told};
-ghost use Rattle.lines.specs.Lines.{written, rate as rateLine, holiday as holidayLine};
-ghost use Rattle.lines.specs.Records.{known, line_of, shown_record, record_of, barred_for};
+ghost use Rattle.lines.specs.Lines.{written, rate as rate_line, holiday as holiday_line};
+ghost use Rattle.lines.specs.Records.{line_of, shown_record, record_of, barred_for};
 ghost use Rattle.money.specs.Refusals.{refusal_of};
 ghost use Rattle.std.specs.Result.{result_ok};
 
@@ -13,10 +13,10 @@ use crate::entry::Entry;
 use crate::fault::SheetFault;
 use crate::form::form;
 use account::check::{check_rate, read_status};
-use money::cause::BookCause;
 use money::currency::Currency;
 use money::status::Status;
 use request::fault::BookFault;
+use request::subject::Subject;
 use std::alloc::{AllocError, Global};
 use std::fmt;
 
@@ -42,33 +42,20 @@ impl fmt::Display for Record {
     }
 }
 
-fn known(currency: &[u8]) -> Result<Currency, BookFault>
-    ensures { result ≡ known currency.now }
-{
-    match Currency::read(currency) {
-        Some(currency) => Ok(currency),
-        None => Err(BookFault::Own {
-            cause: BookCause::CurrencyUnknown,
-            code: None,
-            currency: None,
-        }),
-    }
-}
-
 fn rate_record(currency: &[u8], rate: i64) -> Result<Record, BookFault>
-    ensures answer { refusal_of told_by_book result ≡ barred_for (rateLine currency.now rate) }
-    ensures value { result_ok result ≡ record_of (rateLine currency.now rate) }
+    ensures answer { refusal_of told_by_book result ≡ barred_for (rate_line currency.now rate) }
+    ensures value { result_ok result ≡ record_of (rate_line currency.now rate) }
 {
-    let currency = known(currency)?;
+    let currency = Subject::of_currency(currency).known_currency()?;
     check_rate(currency, rate)?;
     Ok(Record::Rate { currency, rate })
 }
 
 fn holiday_record(currency: &[u8], flag: i64) -> Result<Record, BookFault>
-    ensures answer { refusal_of told_by_book result ≡ barred_for (holidayLine currency.now flag) }
-    ensures value { result_ok result ≡ record_of (holidayLine currency.now flag) }
+    ensures answer { refusal_of told_by_book result ≡ barred_for (holiday_line currency.now flag) }
+    ensures value { result_ok result ≡ record_of (holiday_line currency.now flag) }
 {
-    let currency = known(currency)?;
+    let currency = Subject::of_currency(currency).known_currency()?;
     let status = read_status(currency, flag)?;
     Ok(Record::Holiday { currency, status })
 }
@@ -86,20 +73,14 @@ impl Entry<'_> {
     }
 }
 
-fn admitted(line: &[u8]) -> Result<Record, SheetFault>
-    ensures answer { refusal_of told result ≡ barred line.now }
-    ensures value { result_ok result ≡ admission line.now }
-{
-    let entry = form(line)?;
-    Ok(entry.record()?)
-}
-
 /// The record that a line writes if it is admitted, else what bars it.
+#[tactic(auto, using(crate::proofs::AdmissionLaws::exactly))]
 pub fn read_line(line: &[u8]) -> Result<Record, SheetFault>
     ensures answer { refusal_of told result ≡ barred line.now }
     ensures exact { Exactly line.now result }
 {
-    admitted(line)
+    let entry = form(line)?;
+    Ok(entry.record()?)
 }
 
 /// The line of a record.

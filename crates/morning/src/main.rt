@@ -6,14 +6,9 @@ use processor::print::LIMIT;
 use std::io::Read;
 use valuation::flat_charge::FlatCharge;
 
-fn run(rt: &HostRuntime) -> anyhow::Result<()> {
+fn main(rt: HostRuntime) -> anyhow::Result<()> {
     let mut input = Vec::new(rt.alloc());
     rt.stdin().take(LIMIT as u64).read_to_end(&mut input)?;
     let text = transcript(rt.alloc(), FlatCharge, input.as_slice())?;
-    rt.print(text)?;
-    Ok(())
-}
-
-fn main(rt: HostRuntime) -> anyhow::Result<()> {
-    run(&rt)
+    Ok(rt.print(text)?)
 }

@@ -9,19 +9,14 @@ fn show(rt: &HostRuntime, name: &str) -> anyhow::Result<()> {
     let input = fs::read(rt, name)?;
     let text = transcript(rt.alloc(), FlatCharge, input.as_slice())?;
     println!(rt; "== {name}")?;
-    rt.print(text)?;
-    Ok(())
-}
-
-fn run(rt: &HostRuntime) -> anyhow::Result<()> {
-    for name in env::args(rt)?.skip(1) {
-        show(rt, name.as_str())?;
-    }
-    Ok(())
+    Ok(rt.print(text)?)
 }
 
 fn main(rt: HostRuntime) -> anyhow::Result<()> {
-    run(&rt)
+    for name in env::args(&rt)?.skip(1) {
+        show(&rt, name.as_str())?;
+    }
+    Ok(())
 }
 
 #[cfg(test)]

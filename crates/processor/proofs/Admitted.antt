@@ -1,26 +1,23 @@
 -- A line that the book performs is admitted.
-use Rattle.std.proofs.Common.{◌≡◌, ℕ, Bool, true, cond, List, ℤ, Some, None, Ok, Err, Option, Result, sym, refl, arith}
+use Rattle.std.proofs.Common.{◌≡◌, ℕ, Bool, true, cond, List, ℤ, Some, None, Option, refl, arith}
 use Rattle.money.specs.declared.currency.Currency.{Currency}
 use Rattle.money.specs.declared.status.Status.{Status}
 use Rattle.money.specs.Currencies.{currency_of}
 use Rattle.money.specs.Options.{before}
 use Rattle.money.specs.Ranges.{within, rate_range}
-use Rattle.money.specs.Refusals.{refusal_of}
 use Rattle.money.specs.Statuses.{status_of}
 use Rattle.determination.specs.Valuations.{Valuation}
 use Rattle.request.specs.Causes.{is_none, outside}
 use Rattle.history.specs.States.{State, is_running}
 use Rattle.history.specs.Steps.{refused}
 use Rattle.history.proofs.Tests.{none_told, is-there, is_within}
-use Rattle.lines.specs.declared.fault.SheetFault.{SheetFault}
 use Rattle.lines.specs.declared.record.Record.{Record}
 use Rattle.lines.specs.declared.record.Record.TheVariants.{Rate, Holiday}
 use Rattle.lines.specs.Admissions.{admission, Admits}
-use Rattle.lines.specs.Faults.{told}
 use Rattle.lines.specs.Lines.{Line, rate, holiday, parsed}
 use Rattle.lines.specs.Records.{record_of, barred_for}
 use Rattle.lines.proofs.AdmissionLaws.{admission-says}
-use Rattle.processor.specs.Performances.{call_of, answer_to, answer, Performed}
+use Rattle.processor.specs.Performances.{call_of, answer_to, answer}
 
 -- what the book does not refuse, nothing in the line bars
 not-barred : (v : Valuation) (s : State) (l : Line) → refused v s (call_of l) ≡ None → barred_for l ≡ None
@@ -58,7 +55,3 @@ pub admits : (v : Valuation) (s : State) (line : List ℕ) → answer v s line �
 admits v s line e =
     let r = admitted v s line (parsed line) refl e in
     (r.0, admission-says line r.0 r.1)
-
-pub performed : (v : Valuation) (s : State) (line : List ℕ) (r : Result Unit SheetFault) → refusal_of told r ≡ answer v s line → Performed line r
-performed v s line (Ok u) e = admits v s line (sym e)
-performed v s line (Err f) e = tt

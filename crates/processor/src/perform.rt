@@ -20,7 +20,7 @@ use lines::fault::SheetFault;
 use lines::form::form;
 use request::fault::BookFault;
 use std::alloc::{AllocError, Global};
-use text::row::first_line;
+use text::row::Lines;
 use valuation::valuation::Valuation;
 
 /// The number of the book that a sheet is performed on. It is never printed.
@@ -48,13 +48,6 @@ impl<V: Valuation> Processor<V> {
         ensures after { state_of self.new ≡ after (valuation_of V.Valuation.counts V.Valuation.admitted) (state_of self.old) line.now }
         ensures admitted { Performed line.now result }
     {
-        self.perform_form(line)
-    }
-
-    fn perform_form(&mut self, line: &[u8]) -> Result<(), SheetFault>
-        ensures answer { refusal_of told result ≡ answer (valuation_of V.Valuation.counts V.Valuation.admitted) (state_of self.old) line.now }
-        ensures after { state_of self.new ≡ after (valuation_of V.Valuation.counts V.Valuation.admitted) (state_of self.old) line.now }
-    {
         let entry = form(line)?;
         self.enter(entry)?;
         Ok(())
@@ -80,33 +73,6 @@ impl<V: Valuation> Processor<V> {
             Err(fault) => print_refusal(out, number, fault.refusal()),
         }
     }
-
-    // Performs the lines of a sheet one after another.
-    fn read(&mut self, sheet: &[u8], out: &mut String) -> Result<(), AllocError>
-        ensures { OnOk result (string_bytes out.new ≡ string_bytes out.old ++ outputs (valuation_of V.Valuation.counts V.Valuation.admitted) (state_of self.old) 0 (rows sheet.now)) }
-    {
-        let mut rest = sheet;
-        let mut number = 0;
-        while let Some((line, after)) = first_line(rest) {
-            number += 1;
-            self.tell(number, line, out)?;
-            rest = after;
-        }
-        Ok(())
-    }
-}
-
-fn transcribe<V: Valuation + Drop>(
-    heap: Global,
-    valuation: V,
-    input: &[u8],
-) -> Result<String, AllocError>
-    ensures { IfOk result (λ t. string_bytes t ≡ transcribed (valuation_of V.Valuation.counts V.Valuation.admitted) input.now) }
-{
-    let mut out = String::new(heap);
-    let mut processor = Processor::new(valuation);
-    processor.read(sheet_of(input), &mut out)?;
-    Ok(out)
 }
 
 /// What is printed of an input: its sheet is performed on a new book under the valuation.
@@ -118,5 +84,10 @@ pub fn transcript<V: Valuation + Drop>(
     ensures law { SheetLaw (valuation_of V.Valuation.counts V.Valuation.admitted) (new_state 1) (rows (sheet_of input.now)) }
     ensures text { IfOk result (λ t. string_bytes t ≡ transcribed (valuation_of V.Valuation.counts V.Valuation.admitted) input.now) }
 {
-    transcribe(heap, valuation, input)
+    let mut out = String::new(heap);
+    let mut processor = Processor::new(valuation);
+    for (at, line) in Lines::of(sheet_of(input)).enumerate() {
+        processor.tell(at + 1, line, &mut out)?;
+    }
+    Ok(out)
 }

@@ -12,23 +12,16 @@ use std::fmt::Write;
 pub const LIMIT: usize = 65_536;
 
 /// What is looked at of an input: its first 65,536 bytes.
-#[tactic(auto, unfolding(crate::specs::Sheets::sheet_of))]
+#[tactic(auto, using(std::proofs::lemmas::List::take_min), unfolding(crate::specs::Sheets::sheet_of))]
 pub fn sheet_of(input: &[u8]) -> &[u8]
     ensures { result.now ≡ sheet_of input.now }
 {
-    if input.len() <= LIMIT {
-        input
-    } else {
-        &input[0..LIMIT]
-    }
+    &input[..LIMIT.min(input.len())]
 }
 
 /// Writes the line of a refusal: `X`, the number of the line, and what the refusal tells.
 pub fn print_refusal(out: &mut String, line: usize, refusal: Refusal) -> Result<(), AllocError>
     ensures { OnOk result (string_bytes out.new ≡ string_bytes out.old ++ shown_refusal line (told refusal)) }
 {
-    match write!(out, "X {line} {refusal}\n") {
-        Ok(()) => Ok(()),
-        Err(_) => Err(AllocError),
-    }
+    write!(out, "X {line} {refusal}\n")
 }

@@ -1,25 +1,28 @@
 -- What `cut_at` gives.
-use Rattle.std.proofs.Common.{◌≡◌, ℕ, zero, suc, ◌<◌, Bool, true, false, cond, eqb, List, [], ◌∷◌, ◌++◌, length, get_or, take, drop, Some, None, Option, refl, ap, subst, arith, eq-eqb, ne_eqb, eqb-true}
+use Rattle.std.proofs.Common.{◌≡◌, ℕ, suc, ◌<◌, Bool, true, false, cond, not, eqb, ltb, List, [], ◌∷◌, ◌++◌, length, get_or, take, drop, Some, None, Option, refl, ap, ◌∙◌, subst, arith, eq-eqb, ne_eqb, eqb-true, lt-ltb}
+use Rattle.std.specs.List.{position, position_or_len}
+use Rattle.std.specs.Option.{option_map}
+use Prim.Native.Nat.compare
 use Rattle.text.specs.Cuts.{onto, cut_at, Free}
 
 some_same : {X : Type 0} {x y : X} → Some x ≡ Some y → x ≡ y
 some_same e = cc
 
-pub drop-one : {X : Type 0} (i : ℕ) (xs : List X) → drop 1 (drop i xs) ≡ drop (suc i) xs
-drop-one zero xs = refl
-drop-one (suc i) [] = refl
-drop-one (suc i) (x ∷ xs) = drop-one i xs
-
--- the first mark is at i
-pub cut-found : (m : ℕ) (xs : List ℕ) (i : ℕ) → i < length xs → ((k : ℕ) → k < i → get_or xs k 0 ≡ m → ⊥) → get_or xs i 0 ≡ m → cut_at m xs ≡ Some (take i xs, drop (suc i) xs)
-cut-found m [] i l none e = absurd (omega arith)
-cut-found m (c ∷ cs) zero l none e = rw (eq-eqb c m e)
-cut-found m (c ∷ cs) (suc i) l none e =
-    rw (ne_eqb c m (none 0 (omega arith)), cut-found m cs i (omega arith) (λ k lt. none (suc k) (omega arith)) e)
-
-pub cut-none : (m : ℕ) (xs : List ℕ) → ((k : ℕ) → k < length xs → get_or xs k 0 ≡ m → ⊥) → cut_at m xs ≡ None
-cut-none m [] none = refl
-cut-none m (c ∷ cs) none = rw (ne_eqb c m (none 0 (omega arith)), cut-none m cs (λ k lt. none (suc k) (omega arith)))
+-- a text is cut at the place of the first mark
+pub cut_place : (m : ℕ) (xs : List ℕ) (o : Option ℕ) → position (λ b. eqb b m) xs ≡ o → cut_at m xs ≡ option_map (λ i. (take i xs, drop (suc i) xs)) o
+cut_place m xs o e = at xs ∙ ap (option_map (λ i. (take i xs, drop (suc i) xs))) e
+  where
+    at : (xs : List ℕ) → cut_at m xs ≡ option_map (λ i. (take i xs, drop (suc i) xs)) (position (λ b. eqb b m) xs)
+    at [] = refl
+    at (c ∷ cs) = by (eqb c m) (position_or_len (λ b. eqb b m) cs) _ (omega arith) (at cs)
+      where
+        by : (b : Bool) (p q : ℕ) → q ≡ suc p → cut_at m cs ≡ option_map (λ i. (take i cs, drop (suc i) cs)) (cond (ltb p (length cs)) (Some p) None) → cond b (Some ([], cs)) (onto c (cut_at m cs)) ≡ option_map (λ i. (take i (c ∷ cs), drop (suc i) (c ∷ cs))) (cond (ltb (cond (not b) q 0) (suc (length cs))) (Some (cond (not b) q 0)) None)
+        by true p q e is = rw (lt-ltb 0 (suc (length cs)) (omega arith)) refl
+        by false p q e is = rw (e, is, compare.suc-suc) (inside (ltb p (length cs)))
+          where
+            inside : (b : Bool) → onto c (option_map (λ i. (take i cs, drop (suc i) cs)) (cond b (Some p) None)) ≡ option_map (λ i. (take i (c ∷ cs), drop (suc i) (c ∷ cs))) (cond b (Some (suc p)) None)
+            inside true = refl
+            inside false = refl
 
 -- what was cut off, and back
 abbrev pub Cut : ℕ → List ℕ → List ℕ × List ℕ → Type 0

@@ -1,5 +1,5 @@
 -- Bytes, cut at a mark.
-use Rattle.std.specs.Prelude.{◌≡◌, ℕ, false, cond, List, [], ◌∷◌, take, drop, Some, None, Option, ◌==◌}
+use Rattle.std.specs.Prelude.{◌≡◌, ℕ, false, cond, List, [], ◌∷◌, Some, None, Option, ◌==◌}
 use Rattle.std.specs.Borrow.{Bor}
 
 -- one byte more before the mark
@@ -11,11 +11,6 @@ onto c (Some p) = Some (c ∷ p.0, p.1)
 abbrev pub cut_at : ℕ → List ℕ → Option (List ℕ × List ℕ)
 cut_at m [] = None
 cut_at m (c ∷ cs) = cond (c == m) (Some ([], cs)) (onto c (cut_at m cs))
-
--- the two parts of a text that a mark at a place makes
-abbrev pub cut_by : List ℕ → Option ℕ → Option (List ℕ × List ℕ)
-cut_by text None = None
-cut_by text (Some i) = Some (take i text, drop 1 (drop i text))
 
 -- no byte of it is the mark
 abbrev pub Free : ℕ → List ℕ → Type 0

@@ -1,25 +1,20 @@
 //! Cutting bytes at a mark.
-ghost use Rattle.std.specs.Prelude.{◌≡◌, ◌<◌, length, IfSome};
-ghost use Rattle.text.specs.Cuts.{cut_at, cut_by, held};
+ghost use Rattle.std.specs.Prelude.{◌≡◌, ◌==◌};
+ghost use Rattle.std.specs.List.{position};
+ghost use Rattle.text.specs.Cuts.{cut_at, held};
 
 // The place of the first `mark`.
-fn position(text: &[u8], mark: u8) -> Option<usize>
-    ensures value { cut_at mark text.now ≡ cut_by text.now result }
-    ensures within { IfSome result (λ i. i < length text.now) }
+pub(crate) fn place(text: &[u8], mark: u8) -> Option<usize>
+    ensures { result ≡ position (λ b. b == mark) text.now }
 {
-    for (i, b) in text.iter().enumerate() {
-        if *b == mark {
-            return Some(i);
-        }
-    }
-    None
+    text.iter().position(|b| *b == mark)
 }
 
 /// What stands before and after the first `mark`, if there is one.
+#[tactic(auto, using(crate::proofs::CutLaws::cut_place, std::proofs::lemmas::List::take_rest))]
 pub fn cut(text: &[u8], mark: u8) -> Option<(&[u8], &[u8])>
     ensures { held result ≡ cut_at mark text.now }
 {
-    let (front, marked) = text.split_at(position(text, mark)?);
-    let (_, back) = marked.split_at(1);
-    Some((front, back))
+    let at = place(text, mark)?;
+    Some((&text[..at], &text[at + 1..]))
 }

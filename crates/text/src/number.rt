@@ -27,33 +27,23 @@ fn natural_number(text: &[u8]) -> Option<u64>
     ensures bound { IfSome result (λ n. n < 10 ^ 12) }
 {
     match text {
-        [] => None,
-        [_] => counted_digits(text),
-        [b'0', ..] => None,
-        _ => if text.len() <= DIGITS {
-            counted_digits(text)
-        } else {
-            None
-        },
+        [] | [b'0', _, ..] => None,
+        _ if text.len() <= DIGITS => counted_digits(text),
+        _ => None,
     }
 }
 
 fn below_zero(digits: &[u8]) -> Option<i64>
     ensures { result ≡ before (natural digits.now) below_zero }
 {
-    match natural_number(digits) {
-        None => None,
-        Some(n) => if n == 0 { None } else { Some(-(n as i64)) },
-    }
+    let n = natural_number(digits)?;
+    if n == 0 { None } else { Some(-(n as i64)) }
 }
 
 fn from_zero(digits: &[u8]) -> Option<i64>
     ensures { result ≡ before (natural digits.now) (λ n. Some (pos n)) }
 {
-    match natural_number(digits) {
-        None => None,
-        Some(n) => Some(n as i64),
-    }
+    natural_number(digits).map(|n| n as i64)
 }
 
 /// The number that a field writes: up to 12 digits, no leading zero, and a minus only before a number above 0.

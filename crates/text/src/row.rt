@@ -1,28 +1,40 @@
 //! The lines of a sheet.
-ghost use Rattle.std.specs.Prelude.{◌≡◌, ◌<◌, ◌≤◌, length, take, drop, Some};
-ghost use Rattle.text.specs.Cuts.{held};
-ghost use Rattle.text.specs.Rows.{First};
+ghost use Rattle.std.specs.Prelude.{◌≡◌};
+ghost use Rattle.std.specs.Iterator.{YieldsFirstRef, at_most};
+ghost use Rattle.text.specs.Rows.{rows, left, bytes_left};
 
-use crate::bytes::cut;
+use crate::bytes::place;
 
-// Where the first line ends: behind its line feed, or with the sheet.
-fn first_end(sheet: &[u8]) -> usize
-    requires { 0 < length sheet.now }
-    ensures cuts { First sheet.now (Some (take result sheet.now, drop result sheet.now)) }
-    ensures within { result ≤ length sheet.now }
-{
-    match cut(sheet, b'\n') {
-        Some((line, _)) => line.len() + 1,
-        None => sheet.len(),
+/// The lines that are left of a sheet, each with its line feed. Where no line feed is left, all is one line.
+#[derive(Drop)]
+pub struct Lines<'a> {
+    rest: &'a [u8],
+}
+
+impl<'a> Lines<'a> {
+    /// All lines of a sheet.
+    pub fn of(sheet: &'a [u8]) -> Lines<'a>
+        ensures { left result ≡ rows sheet.now }
+    {
+        Lines { rest: sheet }
     }
 }
 
-/// The first line with its line feed, and what follows it. Where no line feed is left, all is one line.
-pub fn first_line(sheet: &[u8]) -> Option<(&[u8], &[u8])>
-    ensures { First sheet.now (held result) }
-{
-    if sheet.is_empty() {
-        return None;
+impl<'a> Iterator for Lines<'a> {
+    type Item = &'a [u8];
+
+    ghost next_gives = { YieldsFirstRef left };
+
+    ghost remaining = { λ s. at_most (bytes_left s) };
+
+    #[tactic(auto, using(crate::proofs::RowLaws::first_row))]
+    fn next(&mut self) -> Option<&'a [u8]> {
+        if self.rest.is_empty() {
+            return None;
+        }
+        let end = place(self.rest, b'\n').map_or(self.rest.len(), |at| at + 1);
+        let (line, rest) = self.rest.split_at(end);
+        self.rest = rest;
+        Some(line)
     }
-    Some(sheet.split_at(first_end(sheet)))
 }

@@ -1,5 +1,6 @@
+use Rattle.std.proofs.Common.{Ok, rules}
 use Rattle.lines.proofs.AdmissionLaws.{exactly}
 use Rattle.lines.proofs.record.read_line.Goals as goal
 
-pub returns : goal.returns
-returns c = record { answer = c.admitted.ensures.answer; exact = exactly c.args.line.now c.admitted.result c.admitted.ensures.value }
+pub returns-clause-exact : goal.returns-clause-exact
+returns-clause-exact c = exactly c.args.line.now (Ok c.in_ok-record.field-0) (search rules)

@@ -1,9 +1,8 @@
-use Rattle.determination.specs.Valuations.{valuation_of}
-use Rattle.history.specs.States.{new_state}
-use Rattle.text.specs.Rows.{rows}
-use Rattle.processor.specs.Sheets.{sheet_of}
 use Rattle.processor.proofs.SheetLaws.{law}
 use Rattle.processor.proofs.perform.transcript.Goals as goal
 
-pub returns : goal.returns
-returns g c = record { law = law (valuation_of g.V.Valuation.counts g.V.Valuation.admitted) (new_state 1) (rows (sheet_of c.args.input.now)); text = c.transcribe.ensures }
+pub returns-in_err-tell-clause-law : goal.returns-in_err-tell-clause-law
+returns-in_err-tell-clause-law g c = law _ _ _
+
+pub returns-clause-law : goal.returns-clause-law
+returns-clause-law g c = law _ _ _

@@ -1,9 +1,8 @@
+use Rattle.std.proofs.Common.{rules}
 use Rattle.determination.specs.Valuations.{valuation_of}
 use Rattle.processor.specs.Processors.{state_of}
-use Rattle.processor.proofs.Admitted.{performed}
+use Rattle.processor.proofs.Admitted.{admits}
 use Rattle.processor.proofs.perform.Processor.perform.Goals as goal
 
-pub returns : goal.returns
-returns g c =
-    let told = c.perform_form.ensures in
-    record { answer = told.answer; after = told.after; admitted = performed (valuation_of g.V.Valuation.counts g.V.Valuation.admitted) (state_of c.args.self.now) c.args.line.now c.perform_form.result told.answer }
+pub returns-clause-admitted : goal.returns-clause-admitted
+returns-clause-admitted g c = admits (valuation_of g.V.Valuation.counts g.V.Valuation.admitted) (state_of c.args.self.now) c.args.line.now (search rules)
