@@ -1,5 +1,6 @@
 -- What a book in memory means. It holds no accounts yet.
 use Rattle.std.specs.Prelude.{Bool, true, false, [], Some, None, Ok, Err, Option, Result}
+use Rattle.money.specs.declared.cause.BookCause.{BookCause}
 use Rattle.money.specs.declared.cause.BookCause.TheVariants.{RunOpen, CurrencyUnknown}
 use Rattle.money.specs.declared.currency.Currency.{Currency}
 use Rattle.history.specs.States.{State, is_running}
@@ -20,10 +21,14 @@ meaning b = record {
   runs = b.runs;
 }
 
+-- a fault of a call that names a currency alone
+abbrev pub own : BookCause → Option Currency → BookFault
+own cause currency = Own (record { cause = cause; code = None; currency = currency })
+
 -- the currency of a call, or why there is none: a run is open, or it is not one of the book's
 abbrev pub currency_for : Bool → Option Currency → Result Currency BookFault
-currency_for true currency = Err (Own RunOpen None currency)
-currency_for false None = Err (Own CurrencyUnknown None None)
+currency_for true currency = Err (own RunOpen currency)
+currency_for false None = Err (own CurrencyUnknown None)
 currency_for false (Some c) = Ok c
 
 abbrev pub call_currency : State → Option Currency → Result Currency BookFault

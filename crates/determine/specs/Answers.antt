@@ -6,7 +6,7 @@ use Rattle.money.specs.Currencies.{currencies}
 use Rattle.money.specs.Options.{first_of}
 use Rattle.money.specs.Ranges.{bound}
 use Rattle.account.specs.declared.account.AccountState.{AccountState}
-use Rattle.account.specs.declared.fault.AccountFault.{AccountFault}
+use Rattle.account.specs.Faults.{AccountFault}
 use Rattle.account.specs.Amounts.{surplus_of, deficiency_of}
 use Rattle.account.specs.Answers.{fault_on}
 use Rattle.determination.specs.declared.determination.Determination.{Determination}

