@@ -1,5 +1,5 @@
 -- Accounts stay as they can be.
-use Rattle.std.proofs.Common.{◌≡◌, ℕ, true, ◌&&◌, eqb, List, length, refl, ◌∙◌, arith, length-set, eq-eqb, eqb-true}
+use Rattle.std.proofs.Common.{◌≡◌, ℕ, ◌<◌, slice_index_or, true, ◌&&◌, eqb, List, length, refl, ◌∙◌, arith, length-set, eq-eqb, eqb-true}
 use Rattle.std.proofs.lemmas.Bool.{and_parts, and_from}
 use Rattle.money.specs.declared.code.Code.{Code}
 use Rattle.money.specs.declared.currency.Currency.{Currency}
@@ -31,10 +31,13 @@ pub sound-from : (a : AccountState) → Parts a → sound a ≡ true
 unfolding sound
 sound-from a p = and_from _ _ (and_from _ _ (eq-eqb _ _ p.for_each) p.ranged) p.once
 
-pub figures-ranged : (a : AccountState) → sound a ≡ true → (c : Currency) → Ranged (figures_in a c)
-figures-ranged a e c =
+pub ranged_at : (a : AccountState) → sound a ≡ true → (i : ℕ) → i < length currencies → Ranged (slice_index_or a.figures i no_figures)
+ranged_at a e i within =
     let p = sound-says a e in
-    in-range-says _ (every-at-place in_range a.figures (place c) no_figures p.ranged (omega (arith, p.for_each, place-within c)))
+    in-range-says _ (every-at-place in_range a.figures i no_figures p.ranged (omega (arith, p.for_each)))
+
+pub figures-ranged : (a : AccountState) → sound a ≡ true → (c : Currency) → Ranged (figures_in a c)
+figures-ranged a e c = ranged_at a e (place c) (place-within c)
 
 pub sound-with : (a : AccountState) (c : Currency) (f : Figures) → sound a ≡ true → Ranged f → sound (with_figures a c f) ≡ true
 sound-with a c f e r =
