@@ -1,8 +1,11 @@
 -- What a computed test over book order says of each currency.
-use Rattle.std.proofs.Common.{◌≡◌, ℕ, zero, suc, ◌<◌, Bool, true, false, ltb, List, [], ◌∷◌, map, length, get_or, Some, refl, ap, subst, arith, ltb-true, eq-eqb, ne_eqb, eqb-true}
+use Rattle.std.proofs.Common.{◌≡◌, ℕ, ◌<◌, Bool, true, false, ltb, List, map, length, get_or, Some, refl, ap, ◌∙◌, subst, ltb-true, eq-eqb, ne_eqb, eqb-true}
 use lib.Utf8.{encode}
 use Rattle.std.proofs.lemmas.Slice.Eq.{bytes_eq-Decides}
-use Rattle.std.proofs.lemmas.Bool.{and_parts}
+use Rattle.std.proofs.lemmas.List.Elements.{All-get_or}
+use Rattle.std.proofs.lemmas.List.Sums.{AllPass-from_list_all}
+use Rattle.std.proofs.lemmas.Option.{get_or_from_slice_get, slice_get_within, slice_get-map}
+use Rattle.std.specs.Option.{option_map}
 use Rattle.std.specs.List.{slice_get}
 use Rattle.std.specs.Str.{bytes_eq}
 use Rattle.money.specs.declared.currency.Currency.{Currency}
@@ -11,9 +14,9 @@ use Rattle.money.specs.Options.{every}
 use Rattle.money.specs.Currencies.{currencies, place, is_same, letters, spelt}
 
 pub every-at : {X : Type 0} (f : X → Bool) (xs : List X) (i : ℕ) (x : X) → every f xs ≡ true → slice_get xs i ≡ Some x → f x ≡ true
-every-at f [] i x all is = let z : ◌≡◌ {A = ℕ} 0 1 = cc in absurd (omega arith)
-every-at f (y ∷ ys) zero x all is = let same : y ≡ x = cc in subst (λ z. f z ≡ true) same (and_parts (f y) (every f ys) all).0
-every-at f (y ∷ ys) (suc i) x all is = every-at f ys i x (and_parts (f y) (every f ys) all).1 is
+every-at f xs i x all is =
+    subst (λ z. f z ≡ true) (get_or_from_slice_get xs i x x is)
+    (All-get_or (λ z. f z ≡ true) xs i x (slice_get_within xs i x is) (AllPass-from_list_all f xs all))
 
 -- each currency stands at its place
 pub placed : (c : Currency) → slice_get currencies (place c) ≡ Some c
@@ -38,13 +41,8 @@ pub different : (c d : Currency) → (c ≡ d → ⊥) → is_same c d ≡ false
 different c d apart = ne_eqb (place c) (place d) (λ e. apart (place_same c d e))
 
 -- of what is listed for each currency in book order, what stands at the place of one
-map_at : {X Y : Type 0} (f : X → Y) (d : Y) (xs : List X) (i : ℕ) (x : X) → slice_get xs i ≡ Some x → get_or (map f xs) i d ≡ f x
-map_at f d [] i x e = let z : ◌≡◌ {A = ℕ} 0 1 = cc in absurd (omega arith)
-map_at f d (y ∷ ys) zero x e = let same : y ≡ x = cc in ap f same
-map_at f d (y ∷ ys) (suc i) x e = map_at f d ys i x e
-
 pub at_place : {X : Type 0} (f : Currency → X) (d : X) (c : Currency) → get_or (map f currencies) (place c) d ≡ f c
-at_place f d c = map_at f d currencies (place c) c (placed c)
+at_place f d c = get_or_from_slice_get (map f currencies) (place c) (f c) d (slice_get-map f currencies (place c) ∙ ap (option_map f) (placed c))
 
 -- what a test finds of all of them holds of each
 pub each : (f : Currency → Bool) → every f currencies ≡ true → (c : Currency) → f c ≡ true
