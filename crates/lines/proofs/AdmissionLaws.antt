@@ -14,7 +14,8 @@ use Rattle.money.specs.Statuses.{flag_of, status_of}
 use Rattle.money.proofs.Readings.{currency-says, currency-reads, letters-capital, letters-three, status-reads, status-says, rate-natural}
 use Rattle.text.specs.Cuts.{Free}
 use Rattle.text.specs.Numbers.{Short}
-use Rattle.text.proofs.Spellings.{some_same, before-some, if-then}
+use Rattle.text.proofs.CutLaws.{some_same}
+use Rattle.text.proofs.Spellings.{before-some, if-then}
 use Rattle.lines.specs.declared.fault.SheetFault.{SheetFault}
 use Rattle.lines.specs.declared.record.Record.{Record}
 use Rattle.lines.specs.declared.record.Record.TheVariants.{Rate, Holiday}

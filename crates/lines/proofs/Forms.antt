@@ -4,8 +4,8 @@ use Rattle.std.proofs.lemmas.List.{nil_from_length}
 use Rattle.std.specs.Fmt.{signed_decimal}
 use Rattle.text.specs.Cuts.{cut_at, Free}
 use Rattle.text.specs.Numbers.{Short}
-use Rattle.text.proofs.CutLaws.{cut-says, cut-reads, free-joined}
-use Rattle.text.proofs.Spellings.{some_same, before-some, if-then, number-free}
+use Rattle.text.proofs.CutLaws.{some_same, cut-says, cut-reads, free-joined}
+use Rattle.text.proofs.Spellings.{before-some, if-then, number-free}
 use Rattle.lines.specs.Lines.{Line, rate, holiday, letter, fields, ended, Word, Good, Form, text_number, of_text_number, fielded, lettered, body_of, parsed}
 use Rattle.lines.specs.declared.entry.Entry.{Entry}
 use Rattle.lines.specs.declared.fault.SheetFault.{SheetFault}

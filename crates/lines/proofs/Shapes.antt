@@ -3,8 +3,8 @@ use Rattle.std.proofs.Common.{◌≡◌, ℕ, List, [], ◌∷◌, ◌++◌, ℤ
 use Rattle.std.specs.Fmt.{signed_decimal}
 use Rattle.text.specs.Cuts.{cut_at, Free}
 use Rattle.text.specs.Numbers.{number_of, Short}
-use Rattle.text.proofs.CutLaws.{cut-says, cut-reads, free-parts}
-use Rattle.text.proofs.Spellings.{some_same, before-some, number-says, number-reads}
+use Rattle.text.proofs.CutLaws.{some_same, cut-says, cut-reads, free-parts}
+use Rattle.text.proofs.Spellings.{before-some, number-says, number-reads}
 use Rattle.lines.specs.Lines.{Word, text_number}
 
 -- fields with a tab between them

@@ -25,14 +25,8 @@ fn field_line(letter: u8, fields: &[u8]) -> Option<Entry<'_>>
     ensures { heard result ≡ fielded letter fields.now }
 {
     match letter {
-        b'R' => {
-            let (currency, rate) = text_number(fields)?;
-            Some(Entry::Rate { currency, rate })
-        }
-        b'H' => {
-            let (currency, flag) = text_number(fields)?;
-            Some(Entry::Holiday { currency, flag })
-        }
+        b'R' => text_number(fields).map(|(currency, rate)| Entry::Rate { currency, rate }),
+        b'H' => text_number(fields).map(|(currency, flag)| Entry::Holiday { currency, flag }),
         _ => None,
     }
 }

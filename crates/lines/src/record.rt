@@ -1,7 +1,7 @@
 //! Records: what an admitted line says.
 ghost use Rattle.std.specs.Prelude.{◌≡◌, IfOk, Some, string_bytes};
 ghost use Rattle.request.specs.Faults.{told as told_by_book};
-ghost use Rattle.lines.specs.Admissions.{barred, admission, Exactly};
+ghost use Rattle.lines.specs.Admissions.{barred, Exactly};
 ghost use Rattle.lines.specs.Entries.{meant};
 ghost use Rattle.lines.specs.Faults.{told};
 ghost use Rattle.lines.specs.Lines.{written, rate as rate_line, holiday as holiday_line};

@@ -8,7 +8,7 @@ ghost use Rattle.lines.specs.Entries.{meant};
 ghost use Rattle.lines.specs.Faults.{told};
 ghost use Rattle.money.specs.Refusals.{refusal_of};
 ghost use Rattle.processor.specs.Laws.{SheetLaw};
-ghost use Rattle.processor.specs.Performances.{call_of, answer, after, printed, Performed, outputs, transcribed};
+ghost use Rattle.processor.specs.Performances.{call_of, answer, after, printed, Performed, transcribed};
 ghost use Rattle.processor.specs.Processors.{state_of};
 ghost use Rattle.processor.specs.Sheets.{sheet_of};
 ghost use Rattle.text.specs.Rows.{rows};

@@ -1,7 +1,7 @@
 -- The laws of `place_of` and `count_below`, and what a binary search tells of an ascending row.
 use Rattle.std.proofs.Common.{◌≡◌, ℕ, zero, suc, ◌+◌, ◌-◌, ◌<◌, ◌≤◌, Bool, true, false, cond, ◌&&◌, T, ◌⊎◌, List, [], ◌∷◌, length, get_or, IfSome, Some, None, Ok, Err, Option, Result, Ordering, Less, Equal, Greater, sym, refl, ap, ◌∙◌, subst, inl, inr, true≢false, arith, MatchOption, MatchResult}
 use Rattle.std.specs.List.{insert, HoldsAt, AllWithin, AllByRecursion}
-use Rattle.std.specs.Cmp.{IsTotalOrder, alike_right}
+use Rattle.std.specs.Cmp.{IsTotalOrder, alike_right, tied_itself}
 use Rattle.std.specs.Result.{result_ok}
 use Rattle.std.specs.Ordering.{is_eq, is_lt, ordering_reverse, ordering_index}
 use Rattle.std.specs.List.Sorted.{IsNonDecreasingBy, IsPartitionPoint, IsBinarySearchResult, IsStrictlySortedBy}
@@ -107,14 +107,6 @@ module _ {K : Type 0} (c : K → K → Ordering) where
 -- ---- a total order, and a row that ascends
 
 module _ {K : Type 0} {R : K → K → Ordering} (o : IsTotalOrder R) where
-  pub itself : (x : K) → R x x ≡ Equal
-  itself x = by (R x x) (o.antisymm x x)
-    where
-      by : (r : Ordering) → r ≡ ordering_reverse r → r ≡ Equal
-      by Less e = absurd (true≢false (ap is_lt e))
-      by Equal e = refl
-      by Greater e = absurd (true≢false (sym (ap is_lt e)))
-
   pub turned : (x y : K) → R x y ≡ Less → R y x ≡ Greater
   turned x y e = o.antisymm y x ∙ ap ordering_reverse e
 
@@ -205,7 +197,7 @@ module _ {K : Type 0} {R : K → K → Ordering} (o : IsTotalOrder R) where
       -- a place where the key stands is the one that is found
       stands-found : (i : ℕ) → Stands keys key i → place_of R keys key ≡ Some i
       stands-found i s =
-          let e : HoldsAt (λ k. R k key ≡ Equal) keys i = λ d. ap (λ k. R k key) (s.1 d) ∙ itself key in
+          let e : HoldsAt (λ k. R k key ≡ Equal) keys i = λ d. ap (λ k. R k key) (s.1 d) ∙ tied_itself o key in
           place-some R key keys i s.0 (λ j d a b. ap is_eq (before-equal i s.0 e j d a b)) e
 
       pub is-place : IsExact R → (r : Option ℕ) → IfSome r (λ i. i < length keys) → MatchOption r (AllWithin (λ k. is_eq (R k key) ≡ false) keys 0 (length keys)) (HoldsAt (λ k. R k key ≡ Equal) keys) → IsPlace keys key r

@@ -5,7 +5,7 @@ use Rattle.std.specs.Option.{option_map}
 use Prim.Native.Nat.compare
 use Rattle.text.specs.Cuts.{onto, cut_at, Free}
 
-some_same : {X : Type 0} {x y : X} → Some x ≡ Some y → x ≡ y
+pub some_same : {X : Type 0} {x y : X} → Some x ≡ Some y → x ≡ y
 some_same e = cc
 
 -- a text is cut at the place of the first mark

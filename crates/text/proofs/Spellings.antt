@@ -8,7 +8,7 @@ use Rattle.std.proofs.lemmas.Str.Parse.{digits_value_short, not_in_digits}
 use Rattle.std.proofs.lemmas.Fmt.{decimal-digits_value, digits_decimal, digits_value-decimal, length-decimal-le, decimal_nonempty, decimal_digit, first_decimal}
 use Rattle.text.specs.Cuts.{Free}
 use Rattle.money.specs.Options.{before}
-use Rattle.text.proofs.CutLaws.{free-from}
+use Rattle.text.proofs.CutLaws.{free-from, some_same}
 use Rattle.text.specs.Numbers.{counted, natural, below_zero, number_of, Short}
 use Rattle.text.proofs.DigitLaws.{own}
 
@@ -16,9 +16,6 @@ use Rattle.text.proofs.DigitLaws.{own}
 pub record Spelt (ds : List ℕ) (n : ℕ) : Type 0 where
   pub small : n < 10 ^ 12
   pub text : decimal n ≡ ds
-
-pub some_same : {X : Type 0} {x y : X} → Some x ≡ Some y → x ≡ y
-some_same e = cc
 
 -- what went on came from something
 pub before-some : {X Y : Type 0} (o : Option X) (f : X → Option Y) (y : Y) → before o f ≡ Some y → (x : X) × (o ≡ Some x) × (f x ≡ Some y)
