@@ -16,7 +16,8 @@ use Rattle.determination.specs.Calls.{all_called_in, repayment_by}
 use Rattle.determination.specs.Determinations.{balance_in, room_in, held_in, total, call_for, call, repayment, share, determination, amount_in, cash_with_call, past_bound}
 use Rattle.determination.specs.Laws.{DeterminationLaw}
 use Rattle.determination.specs.Roundings.{rounded_up}
-use Rattle.determination.specs.Valuations.{Valuation, Market, sum}
+use Rattle.valuation.specs.Valuations.{Valuation}
+use Rattle.determination.specs.Valuations.{Market, sum}
 use Rattle.determine.specs.declared.walk.Payment.TheVariants.{Call, Repayment}
 use Rattle.determine.specs.Answers.{unless_past, determination_answer, answer_at, Determined, DeterminedBy}
 use Rattle.determine.specs.Listed.{calls_by_margin, calls_in_base, calls_for, repayments_by, share_of, shares_of, is_past_bound, determination_at}

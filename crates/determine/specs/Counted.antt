@@ -4,7 +4,8 @@ use Rattle.money.specs.declared.currency.Currency.{Currency}
 use Rattle.account.specs.declared.account.AccountState.{AccountState}
 use Rattle.determination.specs.Determinations.{balance_in, total}
 use Rattle.determination.specs.Standings.{standing_amount_in, standing}
-use Rattle.determination.specs.Valuations.{Valuation, Market}
+use Rattle.valuation.specs.Valuations.{Valuation}
+use Rattle.determination.specs.Valuations.{Market}
 use Rattle.determine.specs.declared.worth.Counted.{Counted}
 use Rattle.determine.specs.declared.worth.Counted.TheVariants.{Balance, StandingAmount}
 

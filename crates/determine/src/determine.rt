@@ -3,7 +3,6 @@ ghost use Rattle.std.specs.Prelude.{◌≡◌, true};
 ghost use Rattle.account.specs.Amounts.{deficiency_of};
 ghost use Rattle.account.specs.Answers.{state_of};
 ghost use Rattle.determination.specs.Laws.{DeterminationLaw};
-ghost use Rattle.determination.specs.Valuations.{valuation_of};
 ghost use Rattle.determine.specs.Answers.{determination_answer, answer_at, DeterminedBy};
 ghost use Rattle.determine.specs.Listed.{calls_for, determination_at};
 ghost use Rattle.determine.specs.Markets.{market_in};
@@ -27,9 +26,9 @@ pub fn determine<V: Valuation>(
     market: &Market,
     account: &Account,
 ) -> Result<Determination, AccountFault>
-    ensures answer { result ≡ determination_answer (valuation_of V.Valuation.counts V.Valuation.admitted) (market_in market.now) (state_of account.now) }
-    ensures determined { V.Valuation.admitted (state_of account.now).base ≡ true → DeterminedBy (valuation_of V.Valuation.counts V.Valuation.admitted) (market_in market.now) (state_of account.now) result }
-    ensures law { V.Valuation.admitted (state_of account.now).base ≡ true → DeterminationLaw (valuation_of V.Valuation.counts V.Valuation.admitted) (market_in market.now) (state_of account.now) }
+    ensures answer { result ≡ determination_answer V.meaning (market_in market.now) (state_of account.now) }
+    ensures determined { V.meaning.admits (state_of account.now).base ≡ true → DeterminedBy V.meaning (market_in market.now) (state_of account.now) result }
+    ensures law { V.meaning.admits (state_of account.now).base ≡ true → DeterminationLaw V.meaning (market_in market.now) (state_of account.now) }
 {
     let total = total(valuation, market, account);
     determine_at(market, account, total)

@@ -3,7 +3,6 @@ ghost use Rattle.std.specs.Prelude.{◌≡◌, ◌*ℤ◌};
 ghost use Rattle.account.specs.Answers.{state_of};
 ghost use Rattle.determination.specs.Determinations.{total};
 ghost use Rattle.determination.specs.Standings.{standing};
-ghost use Rattle.determination.specs.Valuations.{valuation_of};
 ghost use Rattle.valuation.specs.Laws.{InRange};
 ghost use Rattle.determine.specs.Counted.{counted_in, worth_of};
 ghost use Rattle.determine.specs.Markets.{market_in};
@@ -24,7 +23,7 @@ pub enum Counted {
 
 /// The total: what the balances are worth.
 pub fn total<V: Valuation>(valuation: &V, market: &Market, account: &Account) -> i64
-    ensures answer { result ≡ total (valuation_of V.Valuation.counts V.Valuation.admitted) (market_in market.now) (state_of account.now) }
+    ensures answer { result ≡ total V.meaning (market_in market.now) (state_of account.now) }
     ensures small { AllPoints result }
 {
     worth(valuation, market, account, Counted::Balance)
@@ -32,7 +31,7 @@ pub fn total<V: Valuation>(valuation: &V, market: &Market, account: &Account) ->
 
 /// Where an account stands.
 pub fn standing<V: Valuation>(valuation: &V, market: &Market, account: &Account) -> i64
-    ensures { result ≡ standing (valuation_of V.Valuation.counts V.Valuation.admitted) (market_in market.now) (state_of account.now) }
+    ensures { result ≡ standing V.meaning (market_in market.now) (state_of account.now) }
 {
     worth(valuation, market, account, Counted::StandingAmount)
 }
@@ -55,14 +54,14 @@ fn points<V: Valuation>(
     amount: i64,
 ) -> i64
     requires { InRange amount }
-    ensures answer { result ≡ V.Valuation.counts base currency amount *ℤ (market_in market.now).rate currency }
+    ensures answer { result ≡ V.meaning.counts base currency amount *ℤ (market_in market.now).rate currency }
     ensures small { OnePoints result }
 {
     valuation.counted(base, currency, amount) * market.rate(currency)
 }
 
 fn worth<V: Valuation>(valuation: &V, market: &Market, account: &Account, counted: Counted) -> i64
-    ensures answer { result ≡ worth_of counted (valuation_of V.Valuation.counts V.Valuation.admitted) (market_in market.now) (state_of account.now) }
+    ensures answer { result ≡ worth_of counted V.meaning (market_in market.now) (state_of account.now) }
     ensures small { AllPoints result }
 {
     let mut sum = 0;

@@ -5,7 +5,7 @@ ghost use Rattle.money.specs.Currencies.{place, letters, spelt, is_written, curr
 use std::fmt;
 
 /// A currency; the variants stand in book order.
-#[derive(Clone, Copy)]
+#[derive(Clone, Copy, PartialEq, Eq)]
 pub enum Currency {
     Gbp,
     Dkk,

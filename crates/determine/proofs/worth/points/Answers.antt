@@ -5,13 +5,13 @@ use Rattle.determine.proofs.Values.{value-small}
 use Rattle.determine.proofs.worth.points.Given as given
 use Rattle.determine.proofs.worth.points.Goals as goal
 
-counted : (g : given.Over) (c : goal.After-rate g) → c.counted.result ≡ g.V.Valuation.counts c.args.base c.args.currency c.args.amount
+counted : (g : given.Over) (c : goal.After-rate g) → c.counted.result ≡ g.V.Valuation.meaning.counts c.args.base c.args.currency c.args.amount
 counted g c = let f : SFits w64 c.args.amount = c.ranges.amount in simp to_z-of_z at c.counted.ensures
 
 small : (g : given.Over) (c : goal.After-rate g) → OnePoints (c.counted.result *ℤ c.rate.result)
 small g c =
     rw (counted g c)
-    (value-small g.V.Valuation.counts g.V.Valuation.admitted g.met.V.Valuation.lawful c.args.base c.args.currency c.args.amount c.rate.result c.requires c.rate.ensures.ranged)
+    (value-small g.V.Valuation.meaning g.met.V.Valuation.lawful c.args.base c.args.currency c.args.amount c.rate.result c.requires c.rate.ensures.ranged)
 
 -- the product as the machine has it
 product : (g : given.Over) (c : goal.After-rate g) → to_z w64 (of_z w64 c.counted.result) *ℤ to_z w64 (of_z w64 c.rate.result) ≡ c.counted.result *ℤ c.rate.result

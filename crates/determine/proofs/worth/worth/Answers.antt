@@ -4,7 +4,7 @@ use Rattle.money.specs.declared.currency.Currency.{Currency}
 use Rattle.money.specs.declared.currency.Currency.TheVariants.{Gbp}
 use Rattle.money.specs.Currencies.{currencies}
 use Rattle.account.specs.Answers.{state_of}
-use Rattle.determination.specs.Valuations.{valuation_of, sum}
+use Rattle.determination.specs.Valuations.{sum}
 use Rattle.determine.specs.Counted.{counted_in}
 use Rattle.determine.specs.Markets.{market_in}
 use Rattle.determine.proofs.Values.{sum_more, worth-of}
@@ -16,7 +16,7 @@ overflow_add-sum g c = let h = c.loop-currency.invariant.1 in let b = c.points-s
 pub loop-currency-preserved : goal.loop-currency-preserved
 loop-currency-preserved g c =
     let a = state_of c.args.account.now in
-    let f : Currency → ℤ = λ k. g.V.Valuation.counts a.base k (counted_in c.args.counted a k) *ℤ (market_in c.args.market.now).rate k in
+    let f : Currency → ℤ = λ k. g.V.Valuation.meaning.counts a.base k (counted_in c.args.counted a k) *ℤ (market_in c.args.market.now).rate k in
     let i = c.loop-currency.currency-index in
     let added : c.points-sum.result ≡ f (get_or currencies i Gbp) = search rules in
     let more = sum_more f currencies i Gbp c.loop-currency-test.true in
@@ -27,11 +27,11 @@ loop-currency-preserved g c =
 pub returns : goal.returns
 returns g c =
     let a = state_of c.args.account.now in
-    let f : Currency → ℤ = λ k. g.V.Valuation.counts a.base k (counted_in c.args.counted a k) *ℤ (market_in c.args.market.now).rate k in
+    let f : Currency → ℤ = λ k. g.V.Valuation.meaning.counts a.base k (counted_in c.args.counted a k) *ℤ (market_in c.args.market.now).rate k in
     let end : c.loop-currency.currency-index ≡ length currencies = omega arith in
     record {
       answer =
           c.loop-currency.invariant.0 ∙ ap (λ (k : ℕ). sum f (take k currencies)) end
-          ∙ sym (worth-of c.args.counted (valuation_of g.V.Valuation.counts g.V.Valuation.admitted) (market_in c.args.market.now) a);
+          ∙ sym (worth-of c.args.counted g.V.Valuation.meaning (market_in c.args.market.now) a);
       small = let h = c.loop-currency.invariant.1 in omega (arith, ints);
     }

@@ -1,4 +1,3 @@
-use Rattle.determination.specs.Valuations.{valuation_of}
 use Rattle.history.specs.States.{new_state}
 use Rattle.text.specs.Rows.{rows}
 use Rattle.processor.specs.Sheets.{sheet_of}
@@ -6,4 +5,4 @@ use Rattle.processor.proofs.SheetLaws.{law}
 use Rattle.processor.proofs.perform.transcript.Goals as goal
 
 pub returns : goal.returns
-returns g c = record { law = law (valuation_of g.V.Valuation.counts g.V.Valuation.admitted) (new_state 1) (rows (sheet_of c.args.input.now)); text = c.transcribe.ensures }
+returns g c = record { law = law g.V.Valuation.meaning (new_state 1) (rows (sheet_of c.args.input.now)); text = c.transcribe.ensures }

@@ -1,4 +1,3 @@
-use Rattle.determination.specs.Valuations.{valuation_of}
 use Rattle.processor.specs.Processors.{state_of}
 use Rattle.processor.proofs.Admitted.{performed}
 use Rattle.processor.proofs.perform.Processor.perform.Goals as goal
@@ -6,4 +5,4 @@ use Rattle.processor.proofs.perform.Processor.perform.Goals as goal
 pub returns : goal.returns
 returns g c =
     let told = c.perform_form.ensures in
-    record { answer = told.answer; after = told.after; admitted = performed (valuation_of g.V.Valuation.counts g.V.Valuation.admitted) (state_of c.args.self.now) c.args.line.now c.perform_form.result told.answer }
+    record { answer = told.answer; after = told.after; admitted = performed g.V.Valuation.meaning (state_of c.args.self.now) c.args.line.now c.perform_form.result told.answer }
