@@ -5,6 +5,7 @@ mod balance;
 mod calls;
 pub mod determine;
 pub mod market;
+pub mod quote;
 mod shares;
 mod walk;
 pub mod worth;

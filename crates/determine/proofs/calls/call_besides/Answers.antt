@@ -20,7 +20,7 @@ with_more-requires c =
     let m = market_in c.args.market.now in
     let k = c.in-Some.currency in
     let called : c.rounded_up.result ≡ rounded_up c.args.points (m.rate k) = search rules in
-    let small : Small c.rounded_up.result = rw called (up_small c.args.points (m.rate k) c.requires.points (is-rate c.args.market.now.rates c.args.market.now.rated k)) in
+    let small : Small c.rounded_up.result = rw called (up_small c.args.points (m.rate k) c.requires.points (is-rate c.args.market.now.quotes c.args.market.now.rated k)) in
     search rules
 
 pub returns-in-Some : goal.returns-in-Some

@@ -17,7 +17,7 @@ pub call_besides-requires : goal.call_besides-requires
 call_besides-requires c =
     let m = market_in c.args.market.now in
     let a = state_of c.args.account.now in
-    let rated = is-rate c.args.market.now.rates c.args.market.now.rated in
+    let rated = is-rate c.args.market.now.quotes c.args.market.now.rated in
     let short = to_z-of_z w64 c.args.short c.ranges.short in
     let rest : c.walk-rest.result.0 ≡ rest_at_end (taken_at Call m a) m.rate a.priority c.args.short =
     c.walk-rest.ensures.rest ∙ ap (rest_at_end (taken_at Call m a) m.rate a.priority) short in
@@ -31,7 +31,7 @@ unfolding calls_by_margin
 returns c =
     let m = market_in c.args.market.now in
     let a = state_of c.args.account.now in
-    let rated = is-rate c.args.market.now.rates c.args.market.now.rated in
+    let rated = is-rate c.args.market.now.quotes c.args.market.now.rated in
     let short = to_z-of_z w64 c.args.short c.ranges.short in
     let fits : SFits w64 c.walk-rest.result.0 = search rules in
     let rest : to_z w64 (of_z w64 c.walk-rest.result.0) ≡ rest_at_end (taken_at Call m a) m.rate a.priority c.args.short =

@@ -20,5 +20,5 @@ returns g c =
     let answer : c.determine_at.result ≡ determination_answer v m a = c.determine_at.ensures ∙ ap (answer_at m a) is ∙ answered v m a in
     let law : v.admits a.base ≡ true → DeterminationLaw v m a = λ admitted.
     every-determination v m a g.met.V.Valuation.lawful
-    (record { rated = rate-within c.args.market.now.rates c.args.market.now.rated; admitted = admitted; sound = c.args.account.now.soundness }) in
+    (record { rated = rate-within c.args.market.now.quotes c.args.market.now.rated; admitted = admitted; sound = c.args.account.now.soundness }) in
     record { answer = answer; determined = λ admitted. subst (DeterminedBy v m a) (sym answer) (determined-by v m a (law admitted)); law = law }

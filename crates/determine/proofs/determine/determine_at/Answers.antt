@@ -14,4 +14,4 @@ past_bound-requires c =
     let a = state_of c.args.account.now in
     let t = c.args.total in
     let called : c.calls_of-calls.result ≡ calls_for a.setting m a (deficiency_of t) = search rules in
-    subst EachSmall (sym called) (calls-small m a (deficiency_of t) (is-rate c.args.market.now.rates c.args.market.now.rated) (short-rest t c.requires) a.setting)
+    subst EachSmall (sym called) (calls-small m a (deficiency_of t) (is-rate c.args.market.now.quotes c.args.market.now.rated) (short-rest t c.requires) a.setting)

@@ -13,7 +13,7 @@ shares_of-shares-requires c =
     let m = market_in c.args.market.now in
     let a = state_of c.args.account.now in
     let t = c.args.total in
-    let rated = is-rate c.args.market.now.rates c.args.market.now.rated in
+    let rated = is-rate c.args.market.now.quotes c.args.market.now.rated in
     let paid : c.repayments_of-repayments.result ≡ repayments_by m a (surplus_of t) = search rules in
     record {
       calls = subst EachSmall (sym c.requires.calls) (calls-small m a (deficiency_of t) rated (short-rest t c.requires.total) a.setting);

@@ -22,7 +22,7 @@ rest_less-rest-requires c =
     let r = c.loop-currency.rest in
     let k = get_or a.priority c.loop-currency.currency-index Gbp in
     let took : c.taken_at-amount.result ≡ taken_at c.args.payment m a r k = search rules in
-    let t : Turned r (m.rate k) c.taken_at-amount.result = rw took (taken-turned m (is-rate c.args.market.now.rates c.args.market.now.rated) a c.args.payment r k (subst Rest c.loop-currency.rest-is c.loop-currency.invariant.2)) in
+    let t : Turned r (m.rate k) c.taken_at-amount.result = rw took (taken-turned m (is-rate c.args.market.now.quotes c.args.market.now.rated) a c.args.payment r k (subst Rest c.loop-currency.rest-is c.loop-currency.invariant.2)) in
     search rules
 
 pub loop-currency-preserved : goal.loop-currency-preserved
@@ -45,7 +45,7 @@ loop-currency-preserved c =
       ap (rest_at_end take m.rate (drop (i + 1) a.priority)) new ∙ sym more.0 ∙ ap (rest_at_end take m.rate (drop i a.priority)) old ∙ inv.0,
       (λ j. walked take m.rate (drop (i + 1) a.priority) (new j) (set c.loop-currency.amounts (at j) (wrote j)))
           ∙ sym more.1 ∙ ap (λ z. walked take m.rate (drop i a.priority) z c.loop-currency.amounts) old ∙ inv.1,
-      subst Rest (sym new) (rest-after m (is-rate c.args.market.now.rates c.args.market.now.rated) a c.args.payment r k (subst Rest c.loop-currency.rest-is inv.2)),
+      subst Rest (sym new) (rest-after m (is-rate c.args.market.now.quotes c.args.market.now.rated) a c.args.payment r k (subst Rest c.loop-currency.rest-is inv.2)),
       length-set c.loop-currency.amounts _ _ ∙ inv.3,
     )
 
