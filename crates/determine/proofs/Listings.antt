@@ -8,7 +8,7 @@ use Rattle.std.proofs.lemmas.Bool.Decides.{nat_tests}
 use Rattle.money.specs.declared.currency.Currency.{Currency}
 use Rattle.money.specs.declared.currency.Currency.TheVariants.{Gbp}
 use Rattle.money.specs.Currencies.{currencies, place, is_same}
-use Rattle.money.proofs.EachCurrency.{same-currency, place-within}
+use Rattle.money.proofs.EachCurrency.{same-currency, place-within, at_place}
 use Rattle.account.specs.Priorities.{times}
 use Rattle.determination.specs.Determinations.{amount_in}
 use Rattle.determination.specs.Walks.{rest_after, rest_at, rest_at_end, taken}
@@ -27,6 +27,10 @@ listed xs f all same =
     let h' : k < length currencies = omega arith in
     let at = place_at k Gbp h' in
     sym (ap (λ j. get_or xs j (pos 0)) at) ∙ same (get_or currencies k Gbp) ∙ sym (get_or-map f currencies k Gbp (pos 0) h'))
+
+-- and each is then found there
+pub amount : (f : Currency → ℤ) (xs : List ℤ) → xs ≡ map f currencies → (c : Currency) → amount_in xs c ≡ f c
+amount f xs e c = ap (λ (ys : List ℤ). amount_in ys c) e ∙ at_place f (pos 0) c
 
 -- one amount is replaced
 pub amount-set : (xs : List ℤ) (c d : Currency) (x : ℤ) → length xs ≡ length currencies → amount_in (set xs (place c) x) d ≡ cond (is_same c d) x (amount_in xs d)

@@ -17,7 +17,7 @@ returns g c =
     let m = market_in c.args.market.now in
     let a = state_of c.args.account.now in
     let is : to_z w64 (of_z w64 c.total-total.result) ≡ total v m a = to_z-of_z w64 c.total-total.result (record { sfits = c.total-total.type_inv }) ∙ c.total-total.ensures.answer in
-    let answer : c.determine_at.result ≡ determination_answer v m a = c.determine_at.ensures ∙ ap (answer_at m a) is ∙ answered v m a in
+    let answer : c.determination.result ≡ determination_answer v m a = c.determination.ensures ∙ ap (answer_at m a) is ∙ answered v m a in
     let law : v.admits a.base ≡ true → DeterminationLaw v m a = λ admitted.
     every-determination v m a g.met.V.Valuation.lawful
     (record { rated = rate-within c.args.market.now.quotes c.args.market.now.rated; admitted = admitted; sound = c.args.account.now.soundness }) in
