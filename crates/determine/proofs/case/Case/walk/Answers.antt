@@ -1,18 +1,17 @@
-use Rattle.std.proofs.Common.{◌≡◌, ◌+◌, ◌<◌, List, [], length, get_or, drop, set, ℤ, pos, ◌-ℤ◌, ◌*ℤ◌, sym, ap, ◌∙◌, subst, length-set, arith, w64, SFits, to_z, of_z, rules}
+use Rattle.std.proofs.Common.{◌≡◌, ◌<◌, ◌≤◌, List, length, get_or, set, ℤ, pos, ◌-ℤ◌, ◌*ℤ◌, sym, ap, ◌∙◌, subst, length-set, arith, w64, SFits, to_z, of_z, rules}
 use Rattle.std.specs.Int.{int_max}
-use Rattle.std.proofs.lemmas.List.{drop_all}
 use Rattle.std.proofs.lemmas.Int.{ints, to_z-of_z}
 use Rattle.money.specs.declared.currency.Currency.{Currency}
 use Rattle.money.specs.declared.currency.Currency.TheVariants.{Gbp}
 use Rattle.money.specs.Currencies.{place}
-use Rattle.determination.specs.Walks.{rest_after, rest_at_end}
+use Rattle.determination.specs.Walks.{rest_after}
 use Rattle.determination.proofs.BalanceLaws.{priority-once}
 use Rattle.determine.specs.Cases.{market_at, state_in}
 use Rattle.determine.specs.Payments.{Turned}
 use Rattle.determine.specs.Points.{Rest}
 use Rattle.determine.specs.Sizes.{EachFew}
 use Rattle.determine.proofs.Besides.{few-set}
-use Rattle.determine.proofs.Listings.{walked, walked_more, walk-listed}
+use Rattle.determine.proofs.Listings.{walked-step, walked-end, walk-listed}
 use Rattle.determine.proofs.case.Case.walk.Goals as goal
 
 -- what an amount is worth, as the machine has it
@@ -46,11 +45,7 @@ loop-currency-preserved g c =
       (λ t takes.
           let took : w ≡ t r k = takes c.loop-currency.rest _ w c.take-amount.ensures ∙ ap (t r) same in
           let rested : c.less-rest.result.count ≡ rest_after t m.rate r k = c.less-rest.ensures ∙ ap (λ z. int_max (r -ℤ z) (pos 0)) (value ∙ (λ j. took j *ℤ rate j)) in
-          let more = walked_more t m.rate cs i r Gbp xs named in
-          let before = inv.0 t takes in (
-            ap (rest_at_end t m.rate (drop (i + 1) cs)) rested ∙ sym more.0 ∙ before.0,
-            (λ j. walked t m.rate (drop (i + 1) cs) (rested j) (set xs (at j) ((wrote ∙ took) j))) ∙ sym more.1 ∙ before.1,
-          )),
+          walked-step t m.rate cs i c.index.result r c.less-rest.result.count (to_z w64 (of_z w64 w)) _ xs _ named rested at (wrote ∙ took) (inv.0 t takes)),
       subst EachFew (sym (λ j. set xs (at j) (wrote j))) (few-set xs k w inv.2 inv.1 (record { low = t'.low; high = t'.high })),
       length-set xs _ _ ∙ inv.2,
     )
@@ -59,12 +54,13 @@ pub returns : goal.returns
 returns g c =
     let m = market_at c.args.self.now in
     let a = state_in c.args.self.now in
-    let r = c.loop-currency.rest.count in
-    let none : drop c.loop-currency.currency-index a.priority ≡ [] = drop_all c.loop-currency.currency-index a.priority (search rules) in
+    let points = c.args.points.count in
+    let i = c.loop-currency.currency-index in
+    let past : length a.priority ≤ i = search rules in
     record {
-      rest = λ t takes. ap (λ (cs : List Currency). rest_at_end t m.rate cs r) (sym none) ∙ (c.loop-currency.invariant.0 t takes).0;
+      rest = λ t takes. (walked-end t m.rate a.priority i _ _ _ _ past (c.loop-currency.invariant.0 t takes)).0;
       taken = λ t takes.
-          ap (λ (cs : List Currency). walked t m.rate cs r c.loop-currency.amounts) (sym none) ∙ (c.loop-currency.invariant.0 t takes).1
-          ∙ walk-listed t m.rate a.priority (priority-once a c.args.self.now.account.soundness) c.args.points.count;
+          (walked-end t m.rate a.priority i _ _ _ _ past (c.loop-currency.invariant.0 t takes)).1
+          ∙ walk-listed t m.rate a.priority (priority-once a c.args.self.now.account.soundness) points;
       few = c.loop-currency.invariant.1;
     }
