@@ -38,9 +38,6 @@ zero-at (suc n) (suc k) = zero-at n k
 pub zero-amount : (c : Currency) → amount_in (replicate (length currencies) (pos 0)) c ≡ pos 0
 zero-amount c = zero-at (length currencies) (place c)
 
-pub zero-few : EachFew (replicate (length currencies) (pos 0))
-zero-few c = let z = zero-amount c in record { low = omega (arith, ints); high = omega (arith, ints) }
-
 -- and so they are small
 pub besides-small : (m : Market) (rated : (c : Currency) → IsRate (m.rate c)) (xs : List ℤ) (r : ℤ) (o : Option Currency) → EachFew xs → Rest r → EachSmall (map (λ c. amount_in xs c +ℤ all_called_in m o r c) currencies)
 besides-small m rated xs r o few rest d =
