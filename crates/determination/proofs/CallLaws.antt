@@ -11,7 +11,8 @@ use Rattle.account.specs.Amounts.{deficiency_of}
 use Rattle.valuation.specs.Laws.{InRange}
 use Rattle.determination.specs.Calls.{call_at, all_called_in, call_by_margin, call_in_base}
 use Rattle.determination.specs.Roundings.{rounded_up}
-use Rattle.determination.specs.Valuations.{Valuation, Market, sum, worth}
+use Rattle.valuation.specs.Valuations.{Valuation}
+use Rattle.determination.specs.Valuations.{Market, sum, worth}
 use Rattle.determination.specs.Walks.{rest_after, rest_at, rest_at_end, taken}
 use Rattle.determination.proofs.FirstOpenLaws.{first_some, all-from-zero, all_none, all-none-shut, all_there, all-suffices}
 use Rattle.determination.proofs.Namings.{EachOnce, named-later}

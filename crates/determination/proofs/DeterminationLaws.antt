@@ -11,7 +11,8 @@ use Rattle.account.specs.Amounts.{surplus_of, deficiency_of}
 use Rattle.valuation.specs.Laws.{InRange}
 use Rattle.determination.specs.Determinations.{balance_in, room_in, total, call_for, call, repayment}
 use Rattle.determination.specs.Laws.{Determinable, Payable, DeterminationLaw, EveryDetermination}
-use Rattle.determination.specs.Valuations.{Valuation, IsLawful, Market, worth}
+use Rattle.valuation.specs.Valuations.{Valuation, IsLawful}
+use Rattle.determination.specs.Valuations.{Market, worth}
 use Rattle.determination.proofs.BalanceLaws.{range-ends, priority-once, balance-in-range, called-in-range}
 use Rattle.determination.proofs.CallLaws.{CallsHold, margin-calls, base-calls}
 use Rattle.determination.proofs.Namings.{EachOnce}

@@ -4,7 +4,8 @@ use Rattle.std.proofs.lemmas.Int.{ints, clamps, by_lt_z}
 use Rattle.money.specs.declared.currency.Currency.{Currency}
 use Rattle.account.specs.Amounts.{surplus_of, deficiency_of}
 use Rattle.valuation.specs.Laws.{InRange}
-use Rattle.determination.specs.Valuations.{Valuation, IsLawful, Market}
+use Rattle.valuation.specs.Valuations.{Valuation, IsLawful}
+use Rattle.determination.specs.Valuations.{Market}
 use Rattle.determination.proofs.Products.{in-points, worth-no-less, worth-from-zero}
 
 -- a lawful valuation under an admitted base, with every rate above zero

@@ -9,7 +9,8 @@ use Rattle.account.specs.Amounts.{surplus_of}
 use Rattle.valuation.specs.Laws.{InRange}
 use Rattle.determination.specs.Calls.{repayment_at, repayment_by}
 use Rattle.determination.specs.Roundings.{rounded_down}
-use Rattle.determination.specs.Valuations.{Valuation, Market, sum, worth}
+use Rattle.valuation.specs.Valuations.{Valuation}
+use Rattle.determination.specs.Valuations.{Market, sum, worth}
 use Rattle.determination.specs.Walks.{rest_after, rest_at}
 use Rattle.determination.proofs.Namings.{EachOnce}
 use Rattle.determination.proofs.Points.{Valued, points, rate-from-zero, taking-costs}

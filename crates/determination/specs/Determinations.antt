@@ -15,7 +15,8 @@ use Rattle.account.specs.Amounts.{surplus_of, deficiency_of, due_to_house}
 use Rattle.determination.specs.declared.determination.Determination.{Determination}
 use Rattle.determination.specs.Balances.{cover, held_cash, balance, room}
 use Rattle.determination.specs.Calls.{call_by_margin, call_in_base, repayment_by}
-use Rattle.determination.specs.Valuations.{Valuation, Market, worth}
+use Rattle.valuation.specs.Valuations.{Valuation}
+use Rattle.determination.specs.Valuations.{Market, worth}
 
 abbrev pub balance_in : AccountState → Currency → ℤ
 balance_in a c = balance a.level (figures_in a c)

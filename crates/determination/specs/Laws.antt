@@ -7,7 +7,8 @@ use Rattle.account.specs.declared.account.AccountState.{AccountState}
 use Rattle.account.specs.Accounts.{sound}
 use Rattle.account.specs.Amounts.{surplus_of, deficiency_of}
 use Rattle.determination.specs.Determinations.{balance_in, room_in, total, call, repayment, cash_with_call}
-use Rattle.determination.specs.Valuations.{Valuation, IsLawful, Market, sum, worth}
+use Rattle.valuation.specs.Valuations.{Valuation, IsLawful}
+use Rattle.determination.specs.Valuations.{Market, sum, worth}
 
 -- an account as it can be, under a base that is admitted, with every rate in its range
 pub record Determinable (v : Valuation) (m : Market) (a : AccountState) : Type 0 where

@@ -5,7 +5,8 @@ use Rattle.money.specs.Currencies.{currencies}
 use Rattle.account.specs.declared.account.AccountState.{AccountState}
 use Rattle.account.specs.Accounts.{figures_in}
 use Rattle.account.specs.Amounts.{due_to_house, standing_amount}
-use Rattle.determination.specs.Valuations.{Valuation, Market, worth}
+use Rattle.valuation.specs.Valuations.{Valuation}
+use Rattle.determination.specs.Valuations.{Market, worth}
 
 abbrev pub standing_amount_in : AccountState → Currency → ℤ
 standing_amount_in a c = standing_amount (figures_in a c)

@@ -1,19 +1,7 @@
 -- What amounts are worth.
 use Rattle.std.specs.Prelude.{Bool, List, [], ◌∷◌, ℤ, pos, ◌+ℤ◌, ◌*ℤ◌}
 use Rattle.money.specs.declared.currency.Currency.{Currency}
-use Rattle.valuation.specs.Laws.{Lawful}
-
--- a valuation by its two meanings: what an amount counts under a base, and which bases are admitted
-pub record Valuation : Type 0 where
-  pub counts : Currency → Currency → ℤ → ℤ
-  pub admits : Currency → Bool
-
-abbrev pub valuation_of : (Currency → Currency → ℤ → ℤ) → (Currency → Bool) → Valuation
-valuation_of counts admits = record { counts = counts; admits = admits }
-
--- it keeps the laws of valuations
-abbrev pub IsLawful : Valuation → Type 0
-IsLawful v = Lawful v.counts v.admits
+use Rattle.valuation.specs.Valuations.{Valuation}
 
 -- the rate of each currency, and which are open
 pub record Market : Type 0 where

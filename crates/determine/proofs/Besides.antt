@@ -1,23 +1,19 @@
 -- All points called in one currency, on top of calls that are listed.
 use Rattle.std.proofs.Common.{◌≡◌, ℕ, zero, suc, Bool, true, false, cond, List, map, length, get_or, set, replicate, ℤ, pos, ◌+ℤ◌, Some, None, Option, sym, refl, ap, ◌∙◌, subst, arith, length-set}
 use Rattle.std.proofs.lemmas.Int.{ints}
+use Rattle.std.proofs.lemmas.Bool.{cond_both}
 use Rattle.money.specs.declared.currency.Currency.{Currency}
 use Rattle.money.specs.Currencies.{currencies, place, is_same}
-use Rattle.money.specs.Options.{first_of}
 use Rattle.money.proofs.EachCurrency.{same-currency, at_place}
-use Rattle.account.specs.declared.account.AccountState.{AccountState}
-use Rattle.determination.specs.Calls.{all_called_in, call_by_margin}
-use Rattle.determination.specs.Determinations.{amount_in, balance_in}
+use Rattle.determination.specs.Calls.{all_called_in}
+use Rattle.determination.specs.Determinations.{amount_in}
 use Rattle.determination.specs.Roundings.{rounded_up}
 use Rattle.determination.specs.Valuations.{Market}
-use Rattle.determination.specs.Walks.{rest_at_end, taken}
-use Rattle.determine.specs.declared.walk.Payment.TheVariants.{Call}
-use Rattle.determine.specs.Payments.{taken_at}
 use Rattle.determine.specs.Points.{Rest}
 use Rattle.determine.specs.Rates.{IsRate}
-use Rattle.determine.specs.Sizes.{Small, EachSmall}
+use Rattle.determine.specs.Sizes.{Small, EachSmall, Few, EachFew}
 use Rattle.determine.proofs.Listings.{listed, amount-set}
-use Rattle.determine.proofs.Payments.{taken-small}
+use Rattle.determine.proofs.Payments.{up-few}
 
 module _ (m : Market) (xs : List ℤ) (all : length xs ≡ length currencies) (r : ℤ) where
   pub none-besides : xs ≡ map (λ c. amount_in xs c +ℤ all_called_in m None r c) currencies
@@ -42,21 +38,17 @@ zero-at (suc n) (suc k) = zero-at n k
 pub zero-amount : (c : Currency) → amount_in (replicate (length currencies) (pos 0)) c ≡ pos 0
 zero-amount c = zero-at (length currencies) (place c)
 
-pub zero-small : (c : Currency) → Small (amount_in (replicate (length currencies) (pos 0)) c)
-zero-small c = let z = zero-amount c in record { low = omega (arith, ints); high = omega (arith, ints) }
+-- and so they are small
+pub besides-small : (m : Market) (rated : (c : Currency) → IsRate (m.rate c)) (xs : List ℤ) (r : ℤ) (o : Option Currency) → EachFew xs → Rest r → EachSmall (map (λ c. amount_in xs c +ℤ all_called_in m o r c) currencies)
+besides-small m rated xs r o few rest d =
+    let w = few d in
+    let b = all-few o in
+    subst Small (sym (at_place (λ c. amount_in xs c +ℤ all_called_in m o r c) (pos 0) d)) (record { low = omega (arith, ints, w.low, b.low); high = omega (arith, ints, w.high, b.high) })
+  where
+    all-few : (o : Option Currency) → Few (all_called_in m o r d)
+    all-few None = record { low = omega (arith, ints); high = omega (arith, ints) }
+    all-few (Some c) = cond_both (is_same c d) (rounded_up r (m.rate c)) (pos 0) Few (λ _. up-few r (m.rate c) rest (rated c)) (λ _. record { low = omega (arith, ints); high = omega (arith, ints) })
 
--- with what the walk takes first, they are the calls by margin
-module _ (m : Market) (rated : (c : Currency) → IsRate (m.rate c)) (a : AccountState) (r : ℤ) (xs : List ℤ) where
-  abbrev take : ℤ → Currency → ℤ
-  take = taken_at Call m a
-
-  module _ (is : xs ≡ map (taken take m.rate a.priority r) currencies) where
-    pub walk-amount : (c : Currency) → amount_in xs c ≡ taken take m.rate a.priority r c
-    walk-amount c = ap (λ (ys : List ℤ). amount_in ys c) is ∙ at_place (taken take m.rate a.priority r) (pos 0) c
-
-    pub walk-small : Rest r → EachSmall xs
-    walk-small rest c = subst Small (sym (walk-amount c)) (taken-small m rated a Call a.priority r c rest)
-
-    pub margin-listed : (o : Option Currency) (left : ℤ) → o ≡ first_of m.is_open a.priority → left ≡ rest_at_end take m.rate a.priority r →
-        map (λ c. amount_in xs c +ℤ all_called_in m o left c) currencies ≡ map (call_by_margin m (balance_in a) a.priority r) currencies
-    margin-listed o left first rest = λ i. map (λ c. walk-amount c i +ℤ all_called_in m (first i) (rest i) c) currencies
+-- an amount more
+pub few-set : (xs : List ℤ) (c : Currency) (x : ℤ) → length xs ≡ length currencies → EachFew xs → Few x → EachFew (set xs (place c) x)
+few-set xs c x all few one d = subst Few (sym (amount-set xs c d x all)) (cond_both (is_same c d) x (amount_in xs d) Few (λ _. one) (λ _. few d))

@@ -1,10 +1,10 @@
 -- What is listed is the determination, and what holds of it.
-use Rattle.std.proofs.Common.{◌≡◌, ℕ, Bool, true, false, cond, not, ◌&&◌, List, [], ◌∷◌, map, ℤ, pos, ◌+ℤ◌, ◌*ℤ◌, ◌≤ℤ◌, Some, None, Option, sym, refl, ap, ◌∙◌, subst, arith}
+use Rattle.std.proofs.Common.{◌≡◌, ℕ, Bool, true, false, cond, not, ◌&&◌, List, [], ◌∷◌, map, ℤ, pos, ◌+ℤ◌, ◌-ℤ◌, ◌*ℤ◌, ◌≤ℤ◌, Some, None, Option, sym, refl, ap, ◌∙◌, subst, arith}
 use lib.Signed.{lt_z}
-use Rattle.std.proofs.lemmas.Int.{ints, clamps}
-use Rattle.std.proofs.lemmas.Bool.{cond_both, cond-false, not-true}
+use Rattle.std.proofs.lemmas.Int.{ints}
+use Rattle.std.proofs.lemmas.Bool.{cond-false, not-true}
 use Rattle.money.specs.declared.currency.Currency.{Currency}
-use Rattle.money.specs.Currencies.{currencies, is_same}
+use Rattle.money.specs.Currencies.{currencies}
 use Rattle.money.specs.Options.{first_of, every}
 use Rattle.money.specs.Ranges.{bound}
 use Rattle.money.proofs.EachCurrency.{at_place, each}
@@ -12,18 +12,13 @@ use Rattle.account.specs.declared.account.AccountState.{AccountState}
 use Rattle.account.specs.declared.terms.DebitSetting.{DebitSetting}
 use Rattle.account.specs.declared.terms.DebitSetting.TheVariants.{MarginCurrency, BaseCurrency}
 use Rattle.account.specs.Amounts.{surplus_of, deficiency_of}
-use Rattle.determination.specs.Calls.{all_called_in, repayment_by}
-use Rattle.determination.specs.Determinations.{balance_in, room_in, held_in, total, call_for, call, repayment, share, determination, amount_in, cash_with_call, past_bound}
+use Rattle.determination.specs.Calls.{repayment_by}
+use Rattle.determination.specs.Determinations.{balance_in, room_in, held_in, due_in, total, call_for, call, repayment, share, determination, amount_in, cash_with_call, past_bound}
 use Rattle.determination.specs.Laws.{DeterminationLaw}
-use Rattle.determination.specs.Roundings.{rounded_up}
-use Rattle.determination.specs.Valuations.{Valuation, Market, sum}
-use Rattle.determine.specs.declared.walk.Payment.TheVariants.{Call, Repayment}
+use Rattle.valuation.specs.Valuations.{Valuation}
+use Rattle.determination.specs.Valuations.{Market, sum}
 use Rattle.determine.specs.Answers.{unless_past, determination_answer, answer_at, Determined, DeterminedBy}
 use Rattle.determine.specs.Listed.{calls_by_margin, calls_in_base, calls_for, repayments_by, share_of, shares_of, is_past_bound, determination_at}
-use Rattle.determine.specs.Points.{AllPoints, Rest}
-use Rattle.determine.specs.Rates.{IsRate}
-use Rattle.determine.specs.Sizes.{Small, EachSmall}
-use Rattle.determine.proofs.Payments.{Few, taken-few, up-few, rest-at-end}
 
 -- THE LISTS
 
@@ -39,36 +34,6 @@ module _ (m : Market) (a : AccountState) (r : ℤ) where
   pub repayment-amount : (c : Currency) → amount_in (repayments_by m a r) c ≡ repayment_by m (balance_in a) (room_in a) a.priority r c
   unfolding repayments_by
   repayment-amount c = at_place (repayment_by m (balance_in a) (room_in a) a.priority r) (pos 0) c
-
-  -- they are small
-  module _ (rated : (c : Currency) → IsRate (m.rate c)) (rest : Rest r) where
-    all-few : (o : Option Currency) (z : ℤ) (d : Currency) → Rest z → Few (all_called_in m o z d)
-    all-few None z d h = record { low = omega (arith, ints); high = omega (arith, ints) }
-    all-few (Some c) z d h = cond_both (is_same c d) (rounded_up z (m.rate c)) (pos 0) Few (λ _. up-few z (m.rate c) h (rated c)) (λ _. record { low = omega (arith, ints); high = omega (arith, ints) })
-
-    call-small : (setting : DebitSetting) (c : Currency) → Small (call_for setting m a r c)
-    call-small MarginCurrency c =
-        let w = taken-few m rated a Call a.priority r c rest in
-        let b = all-few (first_of m.is_open a.priority) _ c (rest-at-end m rated a Call a.priority r rest) in
-        record { low = omega (arith, ints, w.low, b.low); high = omega (arith, ints, w.high, b.high) }
-    call-small BaseCurrency c =
-        let b = all-few (first_of m.is_open (a.base ∷ a.priority)) r c rest in
-        record { low = b.low; high = omega (arith, ints, b.high) }
-
-    pub calls-small : (setting : DebitSetting) → EachSmall (calls_for setting m a r)
-    calls-small setting c = subst Small (sym (call-amount setting c)) (call-small setting c)
-
-    pub repayments-small : EachSmall (repayments_by m a r)
-    repayments-small c =
-        let w = taken-few m rated a Repayment a.priority r c rest in
-        subst Small (sym (repayment-amount c)) (record { low = w.low; high = omega (arith, ints, w.high) })
-
--- points that are short or over
-pub short-rest : (t : ℤ) → AllPoints t → Rest (deficiency_of t)
-short-rest t h = record { low = omega (arith, ints, clamps); high = omega (arith, ints, clamps) }
-
-pub over-rest : (t : ℤ) → AllPoints t → Rest (surplus_of t)
-over-rest t h = record { low = omega (arith, ints, clamps); high = omega (arith, ints, clamps) }
 
 not-above : (x y : ℤ) → lt_z x y ≡ false → y ≤ℤ x
 not-above x y e = grind (arith, ints)
@@ -93,8 +58,8 @@ module _ (v : Valuation) (m : Market) (a : AccountState) where
   all-repaid = refl
 
   all-shared : shares_of m a (calls_for a.setting m a (deficiency_of (total v m a))) (repayments_by m a (surplus_of (total v m a))) ≡ map (share v m a) currencies
-  unfolding shares_of
-  all-shared = λ i. map (λ c. share_of m a c (called c i) (repaid c i)) currencies
+  unfolding shares_of share_of
+  all-shared = λ i. map (λ c. cond (m.is_open c) ((due_in a c +ℤ called c i) -ℤ repaid c i) (pos 0)) currencies
 
   at-total : determination_at m a (total v m a) ≡ determination v m a
   unfolding determination

@@ -1,7 +1,7 @@
-mod Amounts
 mod Rated
 mod Values
 pub mod Listings
+mod Mapped
 mod Payments
 mod Besides
 mod Determined

@@ -1,14 +1,14 @@
 -- Lists of an amount for each currency, in book order.
-use Rattle.std.proofs.Common.{◌≡◌, ℕ, ◌+◌, ◌<◌, Bool, true, false, cond, List, [], ◌∷◌, map, length, get_or, drop, set, replicate, ℤ, pos, sym, refl, ap, ◌∙◌, arith, length-set}
+use Rattle.std.proofs.Common.{◌≡◌, ℕ, ◌+◌, ◌<◌, ◌≤◌, Bool, true, false, cond, List, [], ◌∷◌, map, length, get_or, drop, set, replicate, ℤ, pos, sym, refl, ap, ◌∙◌, arith, length-set}
 use Rattle.std.specs.List.{range_with_len}
 use Rattle.std.proofs.lemmas.List.FromFn.{get_or-range_with_len}
-use Rattle.std.proofs.lemmas.List.{drop_more, get_or-map, get_or-set_same, get_or-set_other, ext_get_or}
+use Rattle.std.proofs.lemmas.List.{drop_more, drop_all, get_or-map, get_or-set_same, get_or-set_other, ext_get_or}
 use Rattle.std.proofs.lemmas.Bool.{cond-true, cond-false, eqb-true, eqb-false}
 use Rattle.std.proofs.lemmas.Bool.Decides.{nat_tests}
 use Rattle.money.specs.declared.currency.Currency.{Currency}
 use Rattle.money.specs.declared.currency.Currency.TheVariants.{Gbp}
 use Rattle.money.specs.Currencies.{currencies, place, is_same}
-use Rattle.money.proofs.EachCurrency.{same-currency, place-within}
+use Rattle.money.proofs.EachCurrency.{same-currency, place-within, at_place}
 use Rattle.account.specs.Priorities.{times}
 use Rattle.determination.specs.Determinations.{amount_in}
 use Rattle.determination.specs.Walks.{rest_after, rest_at, rest_at_end, taken}
@@ -27,6 +27,10 @@ listed xs f all same =
     let h' : k < length currencies = omega arith in
     let at = place_at k Gbp h' in
     sym (ap (λ j. get_or xs j (pos 0)) at) ∙ same (get_or currencies k Gbp) ∙ sym (get_or-map f currencies k Gbp (pos 0) h'))
+
+-- and each is then found there
+pub amount : (f : Currency → ℤ) (xs : List ℤ) → xs ≡ map f currencies → (c : Currency) → amount_in xs c ≡ f c
+amount f xs e c = ap (λ (ys : List ℤ). amount_in ys c) e ∙ at_place f (pos 0) c
 
 -- one amount is replaced
 pub amount-set : (xs : List ℤ) (c d : Currency) (x : ℤ) → length xs ≡ length currencies → amount_in (set xs (place c) x) d ≡ cond (is_same c d) x (amount_in xs d)
@@ -79,8 +83,16 @@ module _ (take : ℤ → Currency → ℤ) (rate : Currency → ℤ) where
       (walked-length cs r (replicate (length currencies) (pos 0)))
       (λ d. walked-takes d cs r (replicate (length currencies) (pos 0)) (once d) refl)
 
-  -- one currency more
-  pub walked_more : (cs : List Currency) (i : ℕ) (r : ℤ) (d : Currency) (xs : List ℤ) → i < length cs →
-      (rest_at_end take rate (drop i cs) r ≡ rest_at_end take rate (drop (i + 1) cs) (rest_after take rate r (get_or cs i d)))
-      × (walked take rate (drop i cs) r xs ≡ walked take rate (drop (i + 1) cs) (rest_after take rate r (get_or cs i d)) (set xs (place (get_or cs i d)) (take r (get_or cs i d))))
-  walked_more cs i r d xs h = let e = drop_more cs i d h in (ap (λ (ks : List Currency). rest_at_end take rate ks r) e, ap (λ (ks : List Currency). walked take rate ks r xs) e)
+  -- one currency more, and the walk still ends as it does
+  pub walked-step : (cs : List Currency) (i j : ℕ) (r s w end : ℤ) (xs all : List ℤ) → i < length cs → s ≡ rest_after take rate r (get_or cs i Gbp) → j ≡ place (get_or cs i Gbp) → w ≡ take r (get_or cs i Gbp) →
+      (rest_at_end take rate (drop i cs) r ≡ end) × (walked take rate (drop i cs) r xs ≡ all) → (rest_at_end take rate (drop (i + 1) cs) s ≡ end) × (walked take rate (drop (i + 1) cs) s (set xs j w) ≡ all)
+  walked-step cs i j r s w end xs all named rested at took before =
+      let e = drop_more cs i Gbp named in (
+        ap (rest_at_end take rate (drop (i + 1) cs)) rested ∙ sym (ap (λ (ks : List Currency). rest_at_end take rate ks r) e) ∙ before.0,
+        (λ k. walked take rate (drop (i + 1) cs) (rested k) (set xs (at k) (took k))) ∙ sym (ap (λ (ks : List Currency). walked take rate ks r xs) e) ∙ before.1,
+      )
+
+  -- and after the last it has ended
+  pub walked-end : (cs : List Currency) (i : ℕ) (r end : ℤ) (xs all : List ℤ) → length cs ≤ i → (rest_at_end take rate (drop i cs) r ≡ end) × (walked take rate (drop i cs) r xs ≡ all) → (r ≡ end) × (xs ≡ all)
+  walked-end cs i r end xs all past before =
+      let none = sym (drop_all i cs past) in (ap (λ (ks : List Currency). rest_at_end take rate ks r) none ∙ before.0, ap (λ (ks : List Currency). walked take rate ks r xs) none ∙ before.1)

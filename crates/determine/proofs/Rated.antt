@@ -1,19 +1,20 @@
 -- What a market says of its rates.
-use Rattle.std.proofs.Common.{◌≡◌, true, eqb, List, length, get_or, ℤ, pos, arith}
+use Rattle.std.proofs.Common.{◌≡◌, true, eqb, List, length, arith}
 use Rattle.std.proofs.lemmas.Bool.{and_parts, eqb-true}
 use Rattle.money.specs.declared.currency.Currency.{Currency}
 use Rattle.money.specs.Currencies.{currencies, place}
 use Rattle.money.specs.Options.{every}
-use Rattle.money.specs.Ranges.{within, rate_range}
+use Rattle.money.specs.Ranges.{rate_range}
 use Rattle.money.proofs.EachCurrency.{place-within}
 use Rattle.account.proofs.Lists.{every-at-place}
 use Rattle.account.proofs.Ranges.{within-says}
-use Rattle.determine.specs.Rates.{are_rates, IsRate}
+use Rattle.determine.specs.declared.quote.Quote.{Quote}
+use Rattle.determine.specs.Rates.{is_rated, are_rates, quote_of, IsRate}
 
-pub rate-within : (rates : List ℤ) → are_rates rates ≡ true → (c : Currency) → within rate_range (get_or rates (place c) (pos 0)) ≡ true
-rate-within rates rated c =
-    let p = and_parts (eqb (length rates) (length currencies)) (every (within rate_range) rates) rated in
-    every-at-place (within rate_range) rates (place c) (pos 0) p.1 (omega (arith, eqb-true _ _ p.0, place-within c))
+pub rate-within : (quotes : List Quote) → are_rates quotes ≡ true → (c : Currency) → is_rated (quote_of quotes c) ≡ true
+rate-within quotes rated c =
+    let p = and_parts (eqb (length quotes) (length currencies)) (every is_rated quotes) rated in
+    every-at-place is_rated quotes (place c) _ p.1 (omega (arith, eqb-true _ _ p.0, place-within c))
 
-pub is-rate : (rates : List ℤ) → are_rates rates ≡ true → (c : Currency) → IsRate (get_or rates (place c) (pos 0))
-is-rate rates rated c = let p = within-says rate_range _ (rate-within rates rated c) in record { low = p.0; high = p.1 }
+pub is-rate : (quotes : List Quote) → are_rates quotes ≡ true → (c : Currency) → IsRate (quote_of quotes c).rate
+is-rate quotes rated c = let p = within-says rate_range _ (rate-within quotes rated c) in record { low = p.0; high = p.1 }

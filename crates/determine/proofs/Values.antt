@@ -1,18 +1,12 @@
 -- How large values and their sums are.
-use Rattle.std.proofs.Common.{◌≡◌, ℕ, ◌+◌, ◌*◌, ◌<◌, ◌≤◌, Bool, List, [], ◌∷◌, ◌++◌, length, get_or, take, ℤ, pos, negsuc, ◌+ℤ◌, ◌*ℤ◌, nat_abs, refl, ap, ◌∙◌, mul-le-mul, arith}
+use Rattle.std.proofs.Common.{◌≡◌, ℕ, ◌+◌, ◌*◌, ◌<◌, ◌≤◌, List, [], ◌∷◌, ◌++◌, length, get_or, take, ℤ, pos, negsuc, ◌+ℤ◌, ◌*ℤ◌, nat_abs, ap, ◌∙◌, mul-le-mul, arith}
 use Rattle.std.proofs.lemmas.List.{take_more}
 use Rattle.std.proofs.lemmas.Int.{ints}
 use Rattle.money.specs.declared.currency.Currency.{Currency}
-use Rattle.money.specs.Currencies.{currencies}
-use Rattle.account.specs.declared.account.AccountState.{AccountState}
-use Rattle.valuation.specs.Laws.{InRange, Lawful}
+use Rattle.valuation.specs.Laws.{InRange}
 use Rattle.valuation.proofs.LawfulCounts.{count_small}
-use Rattle.determination.specs.Determinations.{total}
-use Rattle.determination.specs.Standings.{standing}
-use Rattle.determination.specs.Valuations.{Valuation, Market, sum, worth}
-use Rattle.determine.specs.declared.worth.Counted.{Counted}
-use Rattle.determine.specs.declared.worth.Counted.TheVariants.{Balance, StandingAmount}
-use Rattle.determine.specs.Counted.{counted_in, worth_of}
+use Rattle.valuation.specs.Valuations.{Valuation, IsLawful}
+use Rattle.determination.specs.Valuations.{sum}
 use Rattle.determine.specs.Points.{OnePoints}
 use Rattle.determine.specs.Rates.{IsRate}
 
@@ -23,11 +17,10 @@ product-size (negsuc a) (pos b) m n h k = let r = mul-le-mul h k in omega (arith
 product-size (negsuc a) (negsuc b) m n h k = let r = mul-le-mul h k in omega (arith, ints)
 
 -- what an amount in range is worth
-pub value-small : (counts : Currency → Currency → ℤ → ℤ) (admits : Currency → Bool) → Lawful counts admits → (base c : Currency) (x rate : ℤ) → InRange x → IsRate rate →
-    OnePoints (counts base c x *ℤ rate)
-value-small counts admits laws base c x rate ranged rated =
-    let small = count_small counts admits laws base c x in
-    let s = product-size (counts base c x) rate 800000000000 999999 (omega arith) (omega (arith, ints)) in
+pub value-small : (v : Valuation) → IsLawful v → (base c : Currency) (x rate : ℤ) → InRange x → IsRate rate → OnePoints (v.counts base c x *ℤ rate)
+value-small v laws base c x rate ranged rated =
+    let small = count_small v.counts v.admits laws base c x in
+    let s = product-size (v.counts base c x) rate 800000000000 999999 (omega arith) (omega (arith, ints)) in
     omega arith
 
 sum-push : (f : Currency → ℤ) (cs : List Currency) (d : Currency) → sum f (cs ++ d ∷ []) ≡ sum f cs +ℤ f d
@@ -37,8 +30,3 @@ sum-push f (c ∷ cs) d = let later = sum-push f cs d in omega (arith, ints)
 -- one currency more
 pub sum_more : (f : Currency → ℤ) (cs : List Currency) (i : ℕ) (d : Currency) → i < length cs → sum f (take (i + 1) cs) ≡ sum f (take i cs) +ℤ f (get_or cs i d)
 sum_more f cs i d h = ap (sum f) (take_more cs i d h) ∙ sum-push f (take i cs) (get_or cs i d)
-
-pub worth-of : (k : Counted) (v : Valuation) (m : Market) (a : AccountState) → worth_of k v m a ≡ worth v m a.base (counted_in k a) currencies
-unfolding total standing
-worth-of Balance v m a = refl
-worth-of StandingAmount v m a = refl

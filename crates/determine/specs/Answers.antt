@@ -11,7 +11,8 @@ use Rattle.account.specs.Amounts.{surplus_of, deficiency_of}
 use Rattle.account.specs.Answers.{fault_on}
 use Rattle.determination.specs.declared.determination.Determination.{Determination}
 use Rattle.determination.specs.Determinations.{held_in, total, determination, amount_in, past_bound}
-use Rattle.determination.specs.Valuations.{Valuation, Market, sum}
+use Rattle.valuation.specs.Valuations.{Valuation}
+use Rattle.determination.specs.Valuations.{Market, sum}
 use Rattle.determine.specs.Listed.{calls_for, is_past_bound, determination_at}
 
 -- the fault in a currency, if there is one, and else what was determined

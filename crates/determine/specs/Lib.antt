@@ -1,7 +1,7 @@
 pub mod Rates
 pub mod Markets
+pub mod Cases
 pub mod Points
-pub mod Counted
 pub mod Payments
 pub mod Sizes
 pub mod Listed

@@ -26,11 +26,11 @@ unfoldable pub repayments_by : Market → AccountState → ℤ → List ℤ
 repayments_by m a r = map (repayment_by m (balance_in a) (room_in a) a.priority r) currencies
 
 -- the share in a currency, from its call and its repayment
-abbrev pub share_of : Market → AccountState → Currency → ℤ → ℤ → ℤ
-share_of m a c call repayment = cond (m.is_open c) ((due_in a c +ℤ call) -ℤ repayment) (pos 0)
+unfoldable pub share_of : Market → AccountState → List ℤ → List ℤ → Currency → ℤ
+share_of m a calls repayments c = cond (m.is_open c) ((due_in a c +ℤ amount_in calls c) -ℤ amount_in repayments c) (pos 0)
 
 unfoldable pub shares_of : Market → AccountState → List ℤ → List ℤ → List ℤ
-shares_of m a calls repayments = map (λ c. share_of m a c (amount_in calls c) (amount_in repayments c)) currencies
+shares_of m a calls repayments = map (share_of m a calls repayments) currencies
 
 -- whether held cash and the call would pass the bound
 abbrev pub is_past_bound : AccountState → List ℤ → Currency → Bool

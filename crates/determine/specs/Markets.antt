@@ -4,4 +4,4 @@ use Rattle.determine.specs.declared.market.Market.{Market}
 use Rattle.determine.specs.Rates.{market_by}
 
 abbrev pub market_in : Market → meant.Market
-market_in m = market_by m.rates m.statuses
+market_in m = market_by m.quotes

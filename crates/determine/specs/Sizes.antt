@@ -9,3 +9,11 @@ pub record Small (x : ℤ) : Type 0 where
 
 abbrev pub EachSmall : List ℤ → Type 0
 EachSmall xs = (c : Currency) → Small (amount_in xs c)
+
+-- amounts of which two are small together
+pub record Few (x : ℤ) : Type 0 where
+  pub low : pos 0 ≤ℤ x
+  pub high : x ≤ℤ pos 8000000000001000
+
+abbrev pub EachFew : List ℤ → Type 0
+EachFew xs = (c : Currency) → Few (amount_in xs c)

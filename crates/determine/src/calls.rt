@@ -1,133 +1,91 @@
 //! What is called from an account, and what is repaid.
-ghost use Rattle.std.specs.Prelude.{◌≡◌, ◌∷◌, map, ◌+ℤ◌, slice_set};
-ghost use Rattle.account.specs.Amounts.{surplus_of, deficiency_of};
-ghost use Rattle.account.specs.Answers.{state_of};
+ghost use Rattle.std.specs.Prelude.{◌≡◌, ◌∷◌, map, ◌+ℤ◌};
 ghost use Rattle.determination.specs.Calls.{all_called_in};
 ghost use Rattle.determination.specs.Determinations.{amount_in};
-ghost use Rattle.money.specs.Currencies.{currencies, place};
+ghost use Rattle.money.specs.Currencies.{currencies};
 ghost use Rattle.money.specs.Options.{first_of};
+ghost use Rattle.determine.specs.Cases.{market_at, state_in};
 ghost use Rattle.determine.specs.Listed.{calls_by_margin, calls_in_base, calls_for, repayments_by};
-ghost use Rattle.determine.specs.Markets.{market_in};
-ghost use Rattle.determine.specs.Points.{AllPoints, Rest};
-ghost use Rattle.determine.specs.Sizes.{Small, EachSmall};
+ghost use Rattle.determine.specs.Sizes.{EachFew};
 
-use crate::balance::{deficiency, surplus};
-use crate::market::Market;
-use crate::walk::{Payment, rounded_up, walk};
-use account::held::Account;
+use crate::amounts::Amounts;
+use crate::case::Case;
+use crate::points::Points;
 use account::terms::DebitSetting;
 use money::currency::{COUNT, Currency};
 
-/// What is called where the total is so much: nothing unless it is below 0.
-pub fn calls_of(market: &Market, account: &Account, total: i64) -> [i64; COUNT]
-    requires { AllPoints total }
-    ensures { result ≡ calls_for (state_of account.now).setting (market_in market.now) (state_of account.now) (deficiency_of total) }
-{
-    calls_for(market, account, deficiency(total))
-}
-
-/// What is repaid where the total is so much: nothing unless it is above 0.
-pub fn repayments_of(market: &Market, account: &Account, total: i64) -> [i64; COUNT]
-    requires { AllPoints total }
-    ensures { result ≡ repayments_by (market_in market.now) (state_of account.now) (surplus_of total) }
-{
-    repayments_for(market, account, surplus(total))
-}
-
-fn repayments_for(market: &Market, account: &Account, over: i64) -> [i64; COUNT]
-    requires { Rest over }
-    ensures { result ≡ repayments_by (market_in market.now) (state_of account.now) over }
-{
-    let (_, repayments) = walk(Payment::Repayment, market, account, over);
-    repayments
-}
-
-fn calls_for(market: &Market, account: &Account, short: i64) -> [i64; COUNT]
-    requires { Rest short }
-    ensures { result ≡ calls_for (state_of account.now).setting (market_in market.now) (state_of account.now) short }
-{
-    match account.setting() {
-        DebitSetting::MarginCurrency => calls_by_margin(market, account, short),
-        DebitSetting::BaseCurrency => calls_in_base(market, account, short),
-    }
-}
-
-fn calls_by_margin(market: &Market, account: &Account, short: i64) -> [i64; COUNT]
-    requires { Rest short }
-    ensures { result ≡ calls_by_margin (market_in market.now) (state_of account.now) short }
-{
-    let (rest, calls) = walk(Payment::Call, market, account, short);
-    let first = first_open(market, account);
-    call_besides(market, first, rest, calls)
-}
-
-fn calls_in_base(market: &Market, account: &Account, short: i64) -> [i64; COUNT]
-    requires { Rest short }
-    ensures { result ≡ calls_in_base (market_in market.now) (state_of account.now) short }
-{
-    let first = base_or_first_open(market, account);
-    call_besides(market, first, short, [0; COUNT])
-}
-
-fn base_or_first_open(market: &Market, account: &Account) -> Option<Currency>
-    ensures { result ≡ first_of (market_in market.now).is_open ((state_of account.now).base ∷ (state_of account.now).priority) }
-{
-    let base = account.base();
-    if market.is_open(base) {
-        Some(base)
-    } else {
-        first_open(market, account)
-    }
-}
-
-fn first_open(market: &Market, account: &Account) -> Option<Currency>
-    ensures { result ≡ first_of (market_in market.now).is_open (state_of account.now).priority }
-{
-    first_open_of(market, &account.priority())
-}
-
-fn first_open_of(market: &Market, order: &[Currency; COUNT]) -> Option<Currency>
-    ensures { result ≡ first_of (market_in market.now).is_open order.now }
-{
-    for currency in order {
-        if market.is_open(*currency) {
-            return Some(*currency);
+impl Case {
+    /// What is called where so many points are short.
+    pub fn calls(&self, short: Points) -> Amounts
+        ensures { result.list ≡ calls_for (state_in self.now).setting (market_at self.now) (state_in self.now) short.count }
+    {
+        match self.account.setting() {
+            DebitSetting::MarginCurrency => self.calls_by_margin(short),
+            DebitSetting::BaseCurrency => self.calls_in_base(short),
         }
     }
-    None
-}
 
-// The calls with all points in one currency besides, if there is one.
-fn call_besides(
-    market: &Market,
-    first: Option<Currency>,
-    points: i64,
-    calls: [i64; COUNT],
-) -> [i64; COUNT]
-    requires points { Rest points }
-    requires calls { EachSmall calls }
-    ensures { result ≡ map (λ c. amount_in calls c +ℤ all_called_in (market_in market.now) first points c) currencies }
-{
-    match first {
-        Some(currency) => with_more(calls, currency, rounded_up(points, market.rate(currency))),
-        None => calls,
+    /// What is repaid where so many points are over.
+    pub fn repayments(&self, over: Points) -> Amounts
+        ensures { result.list ≡ repayments_by (market_at self.now) (state_in self.now) over.count }
+    {
+        let (_, list) = self.walk(over, |rest, currency| self.repayment_at(rest, currency));
+        Amounts { list }
     }
-}
 
-fn with_more(mut calls: [i64; COUNT], currency: Currency, amount: i64) -> [i64; COUNT]
-    requires calls { EachSmall calls }
-    requires amount { Small amount }
-    ensures { result ≡ slice_set calls (place currency) (amount_in calls currency +ℤ amount) }
-{
-    let at = currency.index();
-    calls[at] = sum(calls[at], amount);
-    calls
-}
+    fn calls_by_margin(&self, short: Points) -> Amounts
+        ensures { result.list ≡ calls_by_margin (market_at self.now) (state_in self.now) short.count }
+    {
+        let (rest, calls) = self.walk(short, |rest, currency| self.call_at(rest, currency));
+        self.call_besides(calls, self.first_open(), rest)
+    }
 
-fn sum(call: i64, amount: i64) -> i64
-    requires call { Small call }
-    requires amount { Small amount }
-    ensures { result ≡ call +ℤ amount }
-{
-    call + amount
+    fn calls_in_base(&self, short: Points) -> Amounts
+        ensures { result.list ≡ calls_in_base (market_at self.now) (state_in self.now) short.count }
+    {
+        self.call_besides([0; COUNT], self.base_or_first_open(), short)
+    }
+
+    fn base_or_first_open(&self) -> Option<Currency>
+        ensures { result ≡ first_of (market_at self.now).is_open ((state_in self.now).base ∷ (state_in self.now).priority) }
+    {
+        let base = self.account.base();
+        if self.market.is_open(base) {
+            Some(base)
+        } else {
+            self.first_open()
+        }
+    }
+
+    fn first_open(&self) -> Option<Currency>
+        ensures { result ≡ first_of (market_at self.now).is_open (state_in self.now).priority }
+    {
+        self.first_open_of(&self.account.priority())
+    }
+
+    fn first_open_of(&self, order: &[Currency; COUNT]) -> Option<Currency>
+        ensures { result ≡ first_of (market_at self.now).is_open order.now }
+    {
+        order
+            .iter()
+            .copied()
+            .find(|currency| self.market.is_open(*currency))
+    }
+
+    // The calls with all points in one currency besides, if there is one.
+    fn call_besides(
+        &self,
+        mut calls: [i64; COUNT],
+        first: Option<Currency>,
+        points: Points,
+    ) -> Amounts
+        requires { EachFew calls }
+        ensures { result.list ≡ map (λ c. amount_in calls c +ℤ all_called_in (market_at self.now) first points.count c) currencies }
+    {
+        let Some(currency) = first else {
+            return Amounts { list: calls };
+        };
+        calls[currency.index()] += points.rounded_up(self.market.rate(currency));
+        Amounts { list: calls }
+    }
 }

@@ -1,10 +1,14 @@
 //! What one account pays or gets, worked out.
 #![tactic(auto)]
 
-mod balance;
+mod amounts;
 mod calls;
+mod case;
 pub mod determine;
 pub mod market;
+mod points;
+mod position;
+pub mod quote;
 mod shares;
 mod walk;
 pub mod worth;

@@ -17,7 +17,7 @@ use Rattle.account.proofs.Ranges.{within-says}
 use Rattle.account.proofs.SoundAccounts.{figures-ranged}
 use Rattle.valuation.specs.Laws.{InRange}
 use Rattle.determination.specs.Standings.{standing_amount_in, standing}
-use Rattle.determination.specs.Valuations.{Valuation, IsLawful}
+use Rattle.valuation.specs.Valuations.{Valuation, IsLawful}
 use Rattle.determination.proofs.Points.{Valued, points, taking-costs}
 use Rattle.determination.proofs.Sums.{sum-one-less}
 use Rattle.history.specs.Bookings.{booked, change_first, callback_refusal}

@@ -16,7 +16,8 @@ use Rattle.account.specs.declared.terms.Level.TheVariants.{MarginRequirement, Ca
 use Rattle.account.specs.Accounts.{no_figures, figures_in, has_code}
 use Rattle.determination.specs.Balances.{held_cash}
 use Rattle.determination.specs.Determinations.{call, repayment, due, share, determination, amount_in}
-use Rattle.determination.specs.Valuations.{Valuation, Market}
+use Rattle.valuation.specs.Valuations.{Valuation}
+use Rattle.determination.specs.Valuations.{Market}
 use Rattle.history.specs.declared.run.OpenRun.{OpenRun}
 use Rattle.history.specs.Calls.{conclude, FailedDebit, RunNumbers}
 use Rattle.history.specs.Histories.{determined, is_carried_out}

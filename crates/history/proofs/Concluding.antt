@@ -21,7 +21,8 @@ use Rattle.account.proofs.SoundAccounts.{sound-says, sound-from, figures-ranged}
 use Rattle.determination.specs.Balances.{held_cash, room}
 use Rattle.determination.specs.Determinations.{call, repayment, determination, amount_in, cash_with_call}
 use Rattle.determination.specs.Laws.{Determinable, Payable, DeterminationLaw, EveryDetermination}
-use Rattle.determination.specs.Valuations.{Valuation, IsLawful, Market}
+use Rattle.valuation.specs.Valuations.{Valuation, IsLawful}
+use Rattle.determination.specs.Valuations.{Market}
 use Rattle.history.specs.Calls.{FailedDebit, RunNumbers}
 use Rattle.request.specs.Causes.{is_none}
 use Rattle.history.specs.Histories.{is_carried_out}

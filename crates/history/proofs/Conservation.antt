@@ -17,7 +17,7 @@ use Rattle.account.specs.Accounts.{no_figures, figures_in, new_account, has_code
 use Rattle.account.specs.Bookings.{change_figures, with_limits, with_margin, deposit_booked, settlement_booked, callback_booked}
 use Rattle.account.specs.Priorities.{priority_of}
 use Rattle.account.specs.Terms.{level_of, setting_of}
-use Rattle.determination.specs.Valuations.{Valuation}
+use Rattle.valuation.specs.Valuations.{Valuation}
 use Rattle.money.specs.CodeOrders.{is_below}
 use Rattle.history.specs.Bookings.{or_same, held_under, is_held, insert_account, figures_for, limits_faults, margin_faults, deposit_faults, settlement_faults, callback_faults, change_first, booked}
 use Rattle.history.specs.Calls.{Call, set_rate, set_holiday, open_account, set_limits, set_margin, deposit, settle, call_back, cut_off, conclude, ask_standing, FailedDebit, RunNumbers}

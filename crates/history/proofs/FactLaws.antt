@@ -21,7 +21,7 @@ use Rattle.account.specs.Priorities.{priority_of}
 use Rattle.account.specs.Terms.{level_of, setting_of}
 use Rattle.determination.specs.Balances.{room}
 use Rattle.determination.specs.Determinations.{total, call, repayment, share}
-use Rattle.determination.specs.Valuations.{Valuation, IsLawful}
+use Rattle.valuation.specs.Valuations.{Valuation, IsLawful}
 use Rattle.money.proofs.EachCurrency.{same-itself}
 use Rattle.determination.proofs.DeterminationLaws.{every-determination}
 use Rattle.history.specs.declared.optimization.OptimizationAccount.{OptimizationAccount}

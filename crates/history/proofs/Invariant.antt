@@ -5,7 +5,7 @@ use Rattle.money.specs.Options.{every}
 use Rattle.money.specs.Ranges.{fine_rate}
 use Rattle.account.specs.Accounts.{sound}
 use Rattle.determination.specs.Determinations.{determination}
-use Rattle.determination.specs.Valuations.{Valuation}
+use Rattle.valuation.specs.Valuations.{Valuation}
 use Rattle.history.specs.Runs.{first_past_bound}
 use Rattle.history.specs.States.{State, is_running, market_of, missing_rate}
 

@@ -21,7 +21,7 @@ use Rattle.account.proofs.Lists.{every_set}
 use Rattle.account.proofs.Ranges.{within-says}
 use Rattle.account.proofs.SoundAccounts.{figures-ranged, sound-with, sound-new}
 use Rattle.determination.specs.Standings.{standing_amount_in, standing, within_ceilings}
-use Rattle.determination.specs.Valuations.{Valuation}
+use Rattle.valuation.specs.Valuations.{Valuation}
 use Rattle.history.specs.declared.optimization.OptimizationAccount.{OptimizationAccount}
 use Rattle.money.specs.CodeOrders.{is_below}
 use Rattle.history.specs.Bookings.{with_rates, with_statuses, with_accounts, rate_refusal, rate_set, holiday_refusal, holiday_set, held_under, is_held, admits_base, opening_refusal, insert_account, opened, with_opened, figures_of, limits_faults, margin_faults, deposit_faults, settlement_faults, callback_faults, limits_refusal, margin_refusal, deposit_refusal, settlement_refusal, is_stopped, is_within_ceilings, callback_refusal, booked}

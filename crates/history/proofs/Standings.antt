@@ -17,7 +17,8 @@ use Rattle.determination.specs.Balances.{balance, room}
 use Rattle.determination.specs.Determinations.{call, repayment}
 use Rattle.determination.specs.Laws.{EveryDetermination}
 use Rattle.determination.specs.Standings.{standing_amount_in, standing}
-use Rattle.determination.specs.Valuations.{Valuation, IsLawful, Market, worth}
+use Rattle.valuation.specs.Valuations.{Valuation, IsLawful}
+use Rattle.determination.specs.Valuations.{Market, worth}
 use Rattle.determination.proofs.Sums.{sum_same}
 use Rattle.history.specs.Calls.{FailedDebit, RunNumbers}
 use Rattle.history.specs.Histories.{determined, is_carried_out}

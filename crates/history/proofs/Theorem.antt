@@ -3,7 +3,7 @@ use Rattle.std.proofs.Common.{◌≡◌, ℕ, List, [], ◌∷◌, ◌+ℤ◌, S
 use Rattle.money.specs.declared.code.Code.{Code}
 use Rattle.money.specs.declared.currency.Currency.{Currency}
 use Rattle.money.specs.Refusals.{Told}
-use Rattle.determination.specs.Valuations.{Valuation, IsLawful}
+use Rattle.valuation.specs.Valuations.{Valuation, IsLawful}
 use Rattle.determination.proofs.DeterminationLaws.{every-determination}
 use Rattle.history.specs.Calls.{Call, set_rate, set_holiday, open_account, set_limits, set_margin, deposit, settle, call_back, cut_off, conclude, ask_standing}
 use Rattle.history.specs.Histories.{after, Reached, if_performed, paid_in, tally}

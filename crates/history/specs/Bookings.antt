@@ -21,7 +21,7 @@ use Rattle.account.specs.Priorities.{priority_of}
 use Rattle.account.specs.Terms.{level_of, setting_of}
 use Rattle.request.specs.Causes.{first_told, is_none, outside, tells_of, tells_currency}
 use Rattle.determination.specs.Standings.{within_ceilings}
-use Rattle.determination.specs.Valuations.{Valuation}
+use Rattle.valuation.specs.Valuations.{Valuation}
 use Rattle.history.specs.declared.optimization.OptimizationAccount.{OptimizationAccount}
 use Rattle.history.specs.States.{State, is_running, market_of, missing_rate, account_with}
 

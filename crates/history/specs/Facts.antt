@@ -9,7 +9,7 @@ use Rattle.account.specs.declared.account.AccountState.{AccountState}
 use Rattle.account.specs.Accounts.{figures_in, has_code}
 use Rattle.account.specs.Amounts.{due_to_house}
 use Rattle.determination.specs.Determinations.{total, repayment}
-use Rattle.determination.specs.Valuations.{Valuation, IsLawful}
+use Rattle.valuation.specs.Valuations.{Valuation, IsLawful}
 use Rattle.history.specs.Bookings.{is_stopped}
 use Rattle.history.specs.Calls.{Call, open_account, call_back, conclude, FailedDebit, RunNumbers}
 use Rattle.history.specs.Histories.{Reached, determined, is_carried_out}

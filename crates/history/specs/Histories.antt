@@ -9,7 +9,7 @@ use Rattle.money.specs.Refusals.{Told}
 use Rattle.account.specs.declared.account.AccountState.{AccountState}
 use Rattle.determination.specs.declared.determination.Determination.{Determination}
 use Rattle.determination.specs.Determinations.{determination, share}
-use Rattle.determination.specs.Valuations.{Valuation}
+use Rattle.valuation.specs.Valuations.{Valuation}
 use Rattle.history.specs.Calls.{Call, set_rate, set_holiday, open_account, set_limits, set_margin, deposit, settle, call_back, cut_off, conclude, ask_standing, FailedDebit}
 use Rattle.history.specs.Runs.{is_currency, carried_out}
 use Rattle.history.specs.States.{State, new_state, market_of, account_with}

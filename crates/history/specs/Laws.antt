@@ -9,7 +9,7 @@ use Rattle.account.specs.declared.account.Figures.{Figures}
 use Rattle.account.specs.Accounts.{figures_in}
 use Rattle.determination.specs.Determinations.{repayment}
 use Rattle.determination.specs.Standings.{standing}
-use Rattle.determination.specs.Valuations.{Valuation, IsLawful}
+use Rattle.valuation.specs.Valuations.{Valuation, IsLawful}
 use Rattle.history.specs.Bookings.{figures_for}
 use Rattle.history.specs.Calls.{Call, set_rate, set_holiday, open_account, set_limits, set_margin, deposit, settle, call_back, cut_off, conclude, ask_standing, FailedDebit}
 use Rattle.history.specs.Histories.{after, Reached, determined, is_carried_out, tally}

@@ -14,24 +14,18 @@ use Rattle.account.specs.declared.terms.Level.{Level}
 use Rattle.account.specs.declared.terms.Level.TheVariants.{MarginRequirement, CashOptimization}
 use Rattle.account.specs.Accounts.{figures_in, with_figures, new_account}
 use Rattle.account.specs.Bookings.{deposit_booked}
-use Rattle.valuation.specs.FlatCharges.{flat_count, flat_admits}
-use Rattle.valuation.specs.Norms.{norm_count, norm_admits}
+use Rattle.valuation.specs.FlatCharges.{flat_count, flat_charge}
+use Rattle.valuation.specs.Norms.{norm_count, lending_norms}
 use Rattle.determination.specs.declared.determination.Determination.{Determination}
 use Rattle.determination.specs.Determinations.{balance_in, total, call, repayment, share, determination}
 use Rattle.determination.specs.Standings.{standing}
-use Rattle.determination.specs.Valuations.{Valuation, valuation_of, Market}
+use Rattle.determination.specs.Valuations.{Market}
 use Rattle.history.specs.Bookings.{deposit_refusal, booked, with_accounts}
 use Rattle.history.specs.Calls.{FailedDebit}
 use Rattle.history.specs.Runs.{net_payment, carried_out, concluded_account}
 use Rattle.history.specs.States.{State, new_state}
 
 -- THE FIGURES THAT ARE GIVEN
-
-abbrev pub flat_charge : Valuation
-flat_charge = valuation_of flat_count flat_admits
-
-abbrev pub lending_norms : Valuation
-lending_norms = valuation_of norm_count norm_admits
 
 -- ten-thousandths of the common money
 abbrev pub rates : Currency → ℤ

@@ -16,7 +16,8 @@ use Rattle.account.specs.Accounts.{figures_in, with_all_figures}
 use Rattle.determination.specs.declared.determination.Determination.{Determination}
 use Rattle.determination.specs.Balances.{held_cash}
 use Rattle.determination.specs.Determinations.{due, determination, amount_in, cash_with_call}
-use Rattle.determination.specs.Valuations.{Valuation, Market}
+use Rattle.valuation.specs.Valuations.{Valuation}
+use Rattle.determination.specs.Valuations.{Market}
 use Rattle.history.specs.declared.optimization.OptimizationAccount.{OptimizationAccount}
 use Rattle.history.specs.declared.run.OpenRun.{OpenRun}
 use Rattle.history.specs.Calls.{FailedDebit, RunNumbers}

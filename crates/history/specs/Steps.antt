@@ -2,7 +2,7 @@
 use Rattle.std.specs.Prelude.{Some, None, Option}
 use Rattle.money.specs.Refusals.{Told}
 use Rattle.account.specs.Bookings.{with_limits, with_margin, deposit_booked, settlement_booked, callback_booked}
-use Rattle.determination.specs.Valuations.{Valuation}
+use Rattle.valuation.specs.Valuations.{Valuation}
 use Rattle.history.specs.Bookings.{rate_refusal, rate_set, holiday_refusal, holiday_set, opening_refusal, opened, limits_refusal, margin_refusal, deposit_refusal, settlement_refusal, callback_refusal, booked, standing_refusal}
 use Rattle.history.specs.Calls.{Call, set_rate, set_holiday, open_account, set_limits, set_margin, deposit, settle, call_back, cut_off, conclude, ask_standing}
 use Rattle.history.specs.Runs.{cut_off_refusal, with_run, conclusion_refusal, with_conclusion}

@@ -6,7 +6,7 @@ use Rattle.money.specs.Currencies.{currency_of}
 use Rattle.money.specs.Options.{before}
 use Rattle.money.specs.Ranges.{within, rate_range}
 use Rattle.money.specs.Statuses.{status_of}
-use Rattle.determination.specs.Valuations.{Valuation}
+use Rattle.valuation.specs.Valuations.{Valuation}
 use Rattle.request.specs.Causes.{is_none, outside}
 use Rattle.history.specs.States.{State, is_running}
 use Rattle.history.specs.Steps.{refused}

@@ -1,7 +1,7 @@
 -- Refused lines leave no trace.
 use Rattle.std.proofs.Common.{◌≡◌, ℕ, cond, List, [], ◌∷◌, is_some, Some, None, Option, sym, refl, ap, ◌∙◌, subst}
 use Rattle.money.specs.Refusals.{Told}
-use Rattle.determination.specs.Valuations.{Valuation}
+use Rattle.valuation.specs.Valuations.{Valuation}
 use Rattle.history.specs.Steps.{changed, unless}
 use Rattle.history.specs.States.{State}
 use Rattle.lines.specs.Lines.{Line, parsed}

@@ -1,6 +1,6 @@
 -- What holds of every sheet, whatever its lines.
 use Rattle.std.specs.Prelude.{◌≡◌, ℕ, cond, List, [], ◌∷◌, is_some}
-use Rattle.determination.specs.Valuations.{Valuation}
+use Rattle.valuation.specs.Valuations.{Valuation}
 use Rattle.history.specs.States.{State}
 use Rattle.lines.specs.declared.record.Record.{Record}
 use Rattle.lines.specs.Admissions.{Admits}

@@ -2,7 +2,7 @@
 use Rattle.std.specs.Prelude.{ℕ, List, [], Some, None, Ok, Err, Option, Result}
 use Rattle.money.specs.Refusals.{Told}
 use Rattle.text.specs.Rows.{rows}
-use Rattle.determination.specs.Valuations.{Valuation}
+use Rattle.valuation.specs.Valuations.{Valuation}
 use Rattle.history.specs.Calls.{Call, set_rate, set_holiday}
 use Rattle.history.specs.Steps.{refused, step}
 use Rattle.history.specs.States.{State, new_state}

@@ -1,7 +1,6 @@
 //! Sheets performed on a book.
 ghost use Rattle.std.specs.Prelude.{◌≡◌, ◌++◌, IfOk, string_bytes, OnOk};
 ghost use Rattle.request.specs.Faults.{told as told_by_book};
-ghost use Rattle.determination.specs.Valuations.{valuation_of};
 ghost use Rattle.history.specs.Steps.{refused, step};
 ghost use Rattle.history.specs.States.{new_state};
 ghost use Rattle.lines.specs.Entries.{meant};
@@ -44,8 +43,8 @@ impl<V: Valuation> Processor<V> {
 
     /// Performs one line, which holds its line feed. A refused line leaves the book as it was.
     pub fn perform(&mut self, line: &[u8]) -> Result<(), SheetFault>
-        ensures answer { refusal_of told result ≡ answer (valuation_of V.Valuation.counts V.Valuation.admitted) (state_of self.old) line.now }
-        ensures after { state_of self.new ≡ after (valuation_of V.Valuation.counts V.Valuation.admitted) (state_of self.old) line.now }
+        ensures answer { refusal_of told result ≡ answer V.meaning (state_of self.old) line.now }
+        ensures after { state_of self.new ≡ after V.meaning (state_of self.old) line.now }
         ensures admitted { Performed line.now result }
     {
         let entry = form(line)?;
@@ -54,8 +53,8 @@ impl<V: Valuation> Processor<V> {
     }
 
     fn enter(&mut self, entry: Entry<'_>) -> Result<(), BookFault>
-        ensures answer { refusal_of told_by_book result ≡ refused (valuation_of V.Valuation.counts V.Valuation.admitted) (state_of self.old) (call_of (meant entry.entry)) }
-        ensures after { state_of self.new ≡ step (valuation_of V.Valuation.counts V.Valuation.admitted) (state_of self.old) (call_of (meant entry.entry)) }
+        ensures answer { refusal_of told_by_book result ≡ refused V.meaning (state_of self.old) (call_of (meant entry.entry)) }
+        ensures after { state_of self.new ≡ step V.meaning (state_of self.old) (call_of (meant entry.entry)) }
     {
         match entry {
             Entry::Rate { currency, rate } => self.book.set_rate(currency, rate),
@@ -65,8 +64,8 @@ impl<V: Valuation> Processor<V> {
 
     // Performs one line, and prints its refusal if it has one.
     fn tell(&mut self, number: usize, line: &[u8], out: &mut String) -> Result<(), AllocError>
-        ensures text { OnOk result (string_bytes out.new ≡ string_bytes out.old ++ printed number (answer (valuation_of V.Valuation.counts V.Valuation.admitted) (state_of self.old) line.now)) }
-        ensures after { state_of self.new ≡ after (valuation_of V.Valuation.counts V.Valuation.admitted) (state_of self.old) line.now }
+        ensures text { OnOk result (string_bytes out.new ≡ string_bytes out.old ++ printed number (answer V.meaning (state_of self.old) line.now)) }
+        ensures after { state_of self.new ≡ after V.meaning (state_of self.old) line.now }
     {
         match self.perform(line) {
             Ok(()) => Ok(()),
@@ -81,8 +80,8 @@ pub fn transcript<V: Valuation + Drop>(
     valuation: V,
     input: &[u8],
 ) -> Result<String, AllocError>
-    ensures law { SheetLaw (valuation_of V.Valuation.counts V.Valuation.admitted) (new_state 1) (rows (sheet_of input.now)) }
-    ensures text { IfOk result (λ t. string_bytes t ≡ transcribed (valuation_of V.Valuation.counts V.Valuation.admitted) input.now) }
+    ensures law { SheetLaw V.meaning (new_state 1) (rows (sheet_of input.now)) }
+    ensures text { IfOk result (λ t. string_bytes t ≡ transcribed V.meaning input.now) }
 {
     let mut out = String::new(heap);
     let mut processor = Processor::new(valuation);

@@ -8,12 +8,13 @@ use Rattle.determination.specs.Valuations as meant
 use Rattle.determine.specs.declared.market.Market.{Market}
 use Rattle.determine.specs.Markets.{market_in}
 use Rattle.quotes.specs.declared.quotes.Quotes.{Quotes}
+use Rattle.quotes.specs.Given.{rates_of, statuses_of}
 
 abbrev pub rates_in : Quotes → List (Option ℤ)
-rates_in q = q.rates
+rates_in q = rates_of q.given
 
 abbrev pub statuses_in : Quotes → List Status
-statuses_in q = q.statuses
+statuses_in q = statuses_of q.given
 
 -- the rates after one was given, or refused
 abbrev pub chosen_rates : Result Unit AccountFault → List (Option ℤ) → Currency → ℤ → List (Option ℤ)

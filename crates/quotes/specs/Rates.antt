@@ -9,6 +9,7 @@ use Rattle.money.specs.Options.{first_of, every}
 use Rattle.money.specs.Ranges.{fine_rate}
 use Rattle.money.specs.Statuses.{is_open_status}
 use Rattle.determination.specs.Valuations.{Market}
+use Rattle.determine.specs.declared.quote.Quote.{Quote}
 
 -- as many as currencies, and each that was given in its range
 abbrev pub are_quotes : List (Option ℤ) → Bool
@@ -25,9 +26,17 @@ missing_in rates = first_of (λ c. not (is_some (rate_of rates c))) currencies
 abbrev pub given_rate : List (Option ℤ) → Currency → ℤ
 given_rate rates c = unwrap_or (rate_of rates c) (pos 0)
 
+-- the status of a currency
+abbrev pub status_in : List Status → Currency → Status
+status_in statuses c = slice_index_or statuses (place c) Open
+
+-- the quote of a currency
+abbrev pub quote_in : List (Option ℤ) → List Status → Currency → Quote
+quote_in rates statuses c = record { rate = given_rate rates c; status = status_in statuses c }
+
 -- the rates and the open currencies that a determination is made by
 abbrev pub quoted_market : List (Option ℤ) → List Status → Market
-quoted_market rates statuses = record { rate = given_rate rates; is_open = λ c. is_open_status (slice_index_or statuses (place c) Open) }
+quoted_market rates statuses = record { rate = given_rate rates; is_open = λ c. is_open_status (status_in statuses c) }
 
 abbrev pub unless_missing : Option Currency → Market → Result Market Currency
 unless_missing None market = Ok market

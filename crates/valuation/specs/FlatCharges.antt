@@ -2,6 +2,7 @@
 use Rattle.std.specs.Prelude.{ℕ, ◌+◌, ◌-◌, ◌*◌, ◌/◌, Bool, true, cond, ℤ}
 use Rattle.money.specs.declared.currency.Currency.{Currency}
 use Rattle.money.specs.Currencies.{is_same}
+use Rattle.valuation.specs.Valuations.{Valuation}
 use Rattle.valuation.specs.Counts.{limited, by_sign}
 
 -- the charge on an absolute amount: 10/100 of it, rounded up
@@ -23,3 +24,7 @@ flat_admits base = true
 -- what an amount counts under the flat charge
 unfoldable pub flat_count : Currency → Currency → ℤ → ℤ
 flat_count = limited flat_admits charged_outside
+
+-- as a valuation
+abbrev pub flat_charge : Valuation
+flat_charge = record { counts = flat_count; admits = flat_admits }

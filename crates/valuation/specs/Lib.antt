@@ -1,4 +1,5 @@
 pub mod Laws
+pub mod Valuations
 pub mod Counts
 pub mod FlatCharges
 pub mod Norms

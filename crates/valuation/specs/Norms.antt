@@ -2,6 +2,7 @@
 use Rattle.std.specs.Prelude.{ℕ, ◌*◌, ◌/◌, Bool, List, [], ◌∷◌, ℤ, is_some, Some, None, Option, slice_index, slice_index_or}
 use Rattle.money.specs.declared.currency.Currency.{Currency}
 use Rattle.money.specs.Currencies.{place}
+use Rattle.valuation.specs.Valuations.{Valuation}
 use Rattle.valuation.specs.Counts.{limited, by_sign}
 
 -- The norms in percent: a row for each base and in it a norm for each currency, both in book order.
@@ -43,3 +44,7 @@ at_its_norm base currency = at_norm (norm_of base currency)
 -- what an amount counts under the lending norms
 unfoldable pub norm_count : Currency → Currency → ℤ → ℤ
 norm_count = limited norm_admits at_its_norm
+
+-- as a valuation
+abbrev pub lending_norms : Valuation
+lending_norms = record { counts = norm_count; admits = norm_admits }

@@ -1,6 +1,6 @@
 //! The flat charge.
 ghost use Rattle.std.specs.Prelude.{◌≡◌, pos, ◌≤ℤ◌, unsigned_abs};
-ghost use Rattle.valuation.specs.FlatCharges.{charge, charged, flat_admits, flat_count};
+ghost use Rattle.valuation.specs.FlatCharges.{charge, charged, flat_charge};
 ghost use Rattle.valuation.specs.Laws.{InRange};
 ghost use Rattle.valuation.specs.ChargeLaws.{flat-lawful};
 
@@ -34,17 +34,16 @@ fn charged(amount: i64) -> i64
 }
 
 impl Valuation for FlatCharge {
-    ghost counts = { flat_count };
-
-    ghost admitted = { flat_admits };
+    ghost meaning = { flat_charge };
 
     ghost lawful = { flat-lawful };
 
+    #[tactic(auto, unfolding(crate::specs::FlatCharges::flat_count))]
     fn counted(&self, base: Currency, currency: Currency, amount: i64) -> i64 {
         if !is_in_range(amount) {
             return 0;
         }
-        if base.index() == currency.index() {
+        if base == currency {
             return amount;
         }
         charged(amount)

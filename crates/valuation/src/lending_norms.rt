@@ -1,7 +1,7 @@
 //! The lending norms.
 ghost use Rattle.std.specs.Prelude.{◌≡◌};
 ghost use Rattle.valuation.specs.Laws.{InRange};
-ghost use Rattle.valuation.specs.Norms.{at_norm, norm_admits, norm_count, row_of};
+ghost use Rattle.valuation.specs.Norms.{at_norm, lending_norms, row_of};
 ghost use Rattle.valuation.specs.NormLaws.{norms-lawful};
 
 use crate::range::is_in_range;
@@ -42,12 +42,11 @@ fn at_norm(norm: u8, amount: i64) -> i64
 }
 
 impl Valuation for LendingNorms {
-    ghost counts = { norm_count };
-
-    ghost admitted = { norm_admits };
+    ghost meaning = { lending_norms };
 
     ghost lawful = { norms-lawful };
 
+    #[tactic(auto, unfolding(crate::specs::Norms::norm_count))]
     fn counted(&self, base: Currency, currency: Currency, amount: i64) -> i64 {
         let Some(norms) = row_of(base) else {
             return 0;

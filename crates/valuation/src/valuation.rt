@@ -1,27 +1,23 @@
 //! The interface of valuations.
-ghost use Rattle.std.specs.Prelude.{◌≡◌, Bool, ℤ};
-ghost use Rattle.money.specs.declared.currency.Currency.{Currency};
-ghost use Rattle.valuation.specs.Laws.{Lawful};
+ghost use Rattle.std.specs.Prelude.{◌≡◌};
+ghost use Rattle.valuation.specs.Valuations.{Valuation, IsLawful};
 
 use money::currency::Currency;
 
 /// Tells what an amount counts for in the total of an account. The answers are fixed for the type, and answering
 /// alters nothing.
 pub trait Valuation {
-    // what an amount counts for, by base and currency
-    ghost counts: { Currency → Currency → ℤ → ℤ };
-
-    // the bases that are admitted
-    ghost admitted: { Currency → Bool };
+    // what amounts count for, and which bases are admitted
+    ghost meaning: { Valuation };
 
     /// What an amount of the currency counts for under the base, a surplus being positive. An amount above four times
     /// the bound, of either sign, counts 0, and so does every amount under a base that is not admitted.
     fn counted(&self, base: Currency, currency: Currency, amount: i64) -> i64
-        ensures { result ≡ counts base currency amount };
+        ensures { result ≡ meaning.counts base currency amount };
 
     /// Whether accounts may have this base.
     fn admits(&self, base: Currency) -> bool
-        ensures { result ≡ admitted base };
+        ensures { result ≡ meaning.admits base };
 
-    ghost lawful: { Lawful counts admitted };
+    ghost lawful: { IsLawful meaning };
 }

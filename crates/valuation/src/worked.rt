@@ -7,16 +7,6 @@ use crate::flat_charge::FlatCharge;
 use crate::valuation::Valuation;
 use money::currency::Currency;
 
-fn counts_of_101(base: Currency, currency: Currency) -> (i64, i64)
-    ensures surplus { result.0 ≡ flat_count base currency (pos 101) }
-    ensures deficiency { result.1 ≡ flat_count base currency (neg_ℤ (pos 101)) }
-{
-    (
-        FlatCharge.counted(base, currency, 101),
-        FlatCharge.counted(base, currency, -101),
-    )
-}
-
 /// What a surplus and a deficiency of 101 count under the flat charge: 90 and -112 in every currency but the base.
 /// With it stands that both valuations keep the laws.
 pub fn worked_counts(base: Currency, currency: Currency) -> (i64, i64)
@@ -24,5 +14,8 @@ pub fn worked_counts(base: Currency, currency: Currency) -> (i64, i64)
     ensures deficiency { result.1 ≡ flat_count base currency (neg_ℤ (pos 101)) }
     ensures law { ValuationFacts }
 {
-    counts_of_101(base, currency)
+    (
+        FlatCharge.counted(base, currency, 101),
+        FlatCharge.counted(base, currency, -101),
+    )
 }

@@ -5,12 +5,14 @@ ghost use Rattle.determine.specs.Markets.{market_in};
 ghost use Rattle.money.specs.Currencies.{currencies, place};
 ghost use Rattle.money.specs.declared.status.Status.TheVariants.{Open};
 ghost use Rattle.quotes.specs.Quoted.{rates_in, statuses_in, chosen_rates, quoted_by};
-ghost use Rattle.quotes.specs.Rates.{rate_of, missing_in, given_rate, quoted_answer};
+ghost use Rattle.quotes.specs.Rates.{rate_of, missing_in, quote_in, quoted_answer};
 
 use super::Quotes;
+use crate::given::Given;
 use account::check::check_rate;
 use account::fault::AccountFault;
 use determine::market::Market;
+use determine::quote::Quote;
 use money::currency::{ALL, COUNT, Currency};
 use money::status::Status;
 
@@ -20,9 +22,12 @@ impl Quotes {
         ensures rates { rates_in result ≡ replicate (length currencies) None }
         ensures statuses { statuses_in result ≡ replicate (length currencies) Open }
     {
+        let nothing = Given {
+            rate: None,
+            status: Status::Open,
+        };
         Quotes {
-            rates: [None; COUNT],
-            statuses: [Status::Open; COUNT],
+            given: [nothing; COUNT],
         }
     }
 
@@ -33,7 +38,7 @@ impl Quotes {
         ensures statuses { statuses_in self.new ≡ statuses_in self.old }
     {
         check_rate(currency, rate)?;
-        self.rates[currency.index()] = Some(rate);
+        self.given[currency.index()].rate = Some(rate);
         Ok(())
     }
 
@@ -42,19 +47,16 @@ impl Quotes {
         ensures rates { rates_in self.new ≡ rates_in self.old }
         ensures statuses { statuses_in self.new ≡ slice_set (statuses_in self.old) (place currency) status }
     {
-        self.statuses[currency.index()] = status;
+        self.given[currency.index()].status = status;
     }
 
     /// The first currency in book order that has no rate.
     pub fn missing(&self) -> Option<Currency>
         ensures { result ≡ missing_in (rates_in self.now) }
     {
-        for currency in ALL {
-            if self.rate_of(currency).is_none() {
-                return Some(currency);
-            }
-        }
-        None
+        ALL.iter()
+            .copied()
+            .find(|currency| self.rate_of(*currency).is_none())
     }
 
     /// The market, if every currency has a rate; else the first that has none.
@@ -64,26 +66,32 @@ impl Quotes {
         if let Some(currency) = self.missing() {
             return Err(currency);
         }
-        match Market::new(self.given(), self.statuses) {
+        match Market::new(self.quoted()) {
             Some(market) => Ok(market),
             None => unreachable!(),
         }
     }
 
-    // The rate of each currency; 0 where there is none.
-    fn given(&self) -> [i64; COUNT]
-        ensures { result ≡ map (given_rate (rates_in self.now)) currencies }
+    // The quote of each currency; its rate is 0 where there is none.
+    fn quoted(&self) -> [Quote; COUNT]
+        ensures { result ≡ map (quote_in (rates_in self.now) (statuses_in self.now)) currencies }
     {
-        let mut rates = [0; COUNT];
-        for currency in ALL {
-            rates[currency.index()] = self.rate_of(currency).unwrap_or(0);
+        ALL.map(|currency| self.quote_of(currency))
+    }
+
+    fn quote_of(&self, currency: Currency) -> Quote
+        ensures { result ≡ quote_in (rates_in self.now) (statuses_in self.now) currency }
+    {
+        let given = self.given[currency.index()];
+        Quote {
+            rate: given.rate.unwrap_or(0),
+            status: given.status,
         }
-        rates
     }
 
     fn rate_of(&self, currency: Currency) -> Option<i64>
         ensures { result ≡ rate_of (rates_in self.now) currency }
     {
-        self.rates[currency.index()]
+        self.given[currency.index()].rate
     }
 }

@@ -1,5 +1,4 @@
 use Rattle.std.proofs.Common.{◌≡◌, ◌++◌, string_bytes}
-use Rattle.determination.specs.Valuations.{valuation_of}
 use Rattle.text.specs.Rows.{left}
 use Rattle.processor.specs.Performances.{outputs, transcribed}
 use Rattle.processor.specs.Processors.{state_of}
@@ -7,4 +6,4 @@ use Rattle.processor.proofs.perform.transcript.Given as goal
 
 abbrev pub invariant-loop-at : goal.invariant-loop-at
 invariant-loop-at g l =
-    string_bytes l.out ++ outputs (valuation_of g.V.Valuation.counts g.V.Valuation.admitted) (state_of l.processor) l.at-iterator.count (left l.at-iterator.iter) ≡ transcribed (valuation_of g.V.Valuation.counts g.V.Valuation.admitted) l.input
+    string_bytes l.out ++ outputs g.V.Valuation.meaning (state_of l.processor) l.at-iterator.count (left l.at-iterator.iter) ≡ transcribed g.V.Valuation.meaning l.input

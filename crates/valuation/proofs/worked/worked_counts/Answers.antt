@@ -1,4 +1,4 @@
-use Rattle.std.proofs.Common.{pos, negsuc, arith, rules}
+use Rattle.std.proofs.Common.{pos, negsuc, arith}
 use Rattle.valuation.specs.Examples.{ValuationFacts}
 use Rattle.valuation.specs.Laws.{InRange}
 use Rattle.valuation.specs.ChargeLaws.{flat-lawful, flat-outside}
@@ -13,5 +13,5 @@ facts = record {
   deficiency = λ base currency different. let r : InRange (negsuc 100) = omega arith in flat-outside base currency (negsuc 100) different r;
 }
 
-pub returns : goal.returns
-returns c = record { surplus = search rules; deficiency = search rules; law = facts }
+pub returns-clause-law : goal.returns-clause-law
+returns-clause-law c = facts
