@@ -7,6 +7,7 @@ ghost use Rattle.text.specs.Numbers.{counted, natural, below_zero, number_of};
 const DIGITS: usize = 12;
 
 // The number that up to 12 digits write.
+#[tactic(auto, using(crate::proofs::DigitLaws::no_digit, crate::proofs::DigitLaws::all_digits, std::proofs::lemmas::List::take_all, std::proofs::lemmas::Int::Digits::digits_value_more, std::proofs::lemmas::Int::Digits::digits_more, std::proofs::lemmas::Str::digit_value_digit))]
 fn counted_digits(text: &[u8]) -> Option<u64>
     requires { length text.now ≤ 12 }
     ensures value { result ≡ counted text.now }
@@ -47,6 +48,7 @@ fn from_zero(digits: &[u8]) -> Option<i64>
 }
 
 /// The number that a field writes: up to 12 digits, no leading zero, and a minus only before a number above 0.
+#[tactic(auto, using(std::proofs::lemmas::List::take_rest))]
 pub fn number(text: &[u8]) -> Option<i64>
     ensures { result ≡ number_of text.now }
 {
