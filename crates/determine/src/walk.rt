@@ -1,7 +1,7 @@
 //! Through the currencies of an account by priority: what is called or repaid in each.
 ghost use Rattle.std.specs.Prelude.{◌≡◌, map, ℤ};
 ghost use Rattle.determination.specs.Calls.{call_at, repayment_at};
-ghost use Rattle.determination.specs.Determinations.{amount_in, balance_in, room_in};
+ghost use Rattle.determination.specs.Determinations.{balance_in, room_in};
 ghost use Rattle.determination.specs.Walks.{rest_at_end, taken};
 ghost use Rattle.money.specs.declared.currency.Currency.{Currency};
 ghost use Rattle.money.specs.Currencies.{currencies};

@@ -1,7 +1,6 @@
 //! How quotes are given and asked.
 ghost use Rattle.std.specs.Prelude.{◌≡◌, map, length, replicate, None, slice_set};
 ghost use Rattle.account.specs.Checks.{rate_answer};
-ghost use Rattle.determine.specs.Markets.{market_in};
 ghost use Rattle.money.specs.Currencies.{currencies, place};
 ghost use Rattle.money.specs.declared.status.Status.TheVariants.{Open};
 ghost use Rattle.quotes.specs.Quoted.{rates_in, statuses_in, chosen_rates, quoted_by};
