@@ -67,10 +67,10 @@ impl<V: Valuation> Processor<V> {
         ensures text { OnOk result (string_bytes out.new ≡ string_bytes out.old ++ printed number (answer V.meaning (state_of self.old) line.now)) }
         ensures after { state_of self.new ≡ after V.meaning (state_of self.old) line.now }
     {
-        match self.perform(line) {
-            Ok(()) => Ok(()),
-            Err(fault) => print_refusal(out, number, fault.refusal()),
+        if let Err(fault) = self.perform(line) {
+            return print_refusal(out, number, fault.refusal());
         }
+        Ok(())
     }
 }
 
