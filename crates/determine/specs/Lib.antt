@@ -2,6 +2,7 @@ pub mod Rates
 pub mod Markets
 pub mod Cases
 pub mod Points
+pub mod Worths
 pub mod Payments
 pub mod Sizes
 pub mod Listed

@@ -1,8 +1,8 @@
 //! What the amounts of an account are worth, under a valuation.
-ghost use Rattle.std.specs.Prelude.{◌≡◌, map, ◌*ℤ◌};
+ghost use Rattle.std.specs.Prelude.{◌≡◌, ℤ, ◌*ℤ◌};
 ghost use Rattle.account.specs.Answers.{state_of};
-ghost use Rattle.determination.specs.Determinations.{amount_in, balance_in, total};
-ghost use Rattle.determination.specs.Standings.{standing, standing_amount_in};
+ghost use Rattle.determination.specs.Determinations.{total};
+ghost use Rattle.determination.specs.Standings.{standing};
 ghost use Rattle.determination.specs.Valuations.{worth};
 ghost use Rattle.money.specs.declared.currency.Currency.{Currency};
 ghost use Rattle.money.specs.Currencies.{currencies};
@@ -10,11 +10,12 @@ ghost use Rattle.valuation.specs.Laws.{InRange};
 ghost use Rattle.determine.specs.Cases.{market_at, state_in};
 ghost use Rattle.determine.specs.Markets.{market_in};
 ghost use Rattle.determine.specs.Points.{OnePoints, AllPoints};
+ghost use Rattle.determine.specs.Worths.{EachInRange, Gives};
 
 use crate::case::Case;
 use crate::market::Market;
 use account::held::Account;
-use money::currency::{ALL, COUNT, Currency};
+use money::currency::{ALL, Currency};
 use valuation::valuation::Valuation;
 
 /// The total: what the balances are worth.
@@ -26,7 +27,7 @@ pub fn total<V: Valuation>(valuation: &V, market: &Market, account: &Account) ->
         market: *market,
         account: *account,
     };
-    case.worth(valuation, case.balances())
+    case.worth(valuation, |currency| case.position(currency).balance())
 }
 
 /// Where an account stands.
@@ -37,30 +38,22 @@ pub fn standing<V: Valuation>(valuation: &V, market: &Market, account: &Account)
         market: *market,
         account: *account,
     };
-    case.worth(valuation, case.standing_amounts())
+    case.worth(valuation, |currency| {
+        case.account.standing_amount(currency)
+    })
 }
 
 impl Case {
-    fn balances(&self) -> [i64; COUNT]
-        ensures { result ≡ map (balance_in (state_in self.now)) currencies }
-    {
-        ALL.map(|currency| self.position(currency).balance())
-    }
-
-    fn standing_amounts(&self) -> [i64; COUNT]
-        ensures { result ≡ map (standing_amount_in (state_in self.now)) currencies }
-    {
-        ALL.map(|currency| self.account.standing_amount(currency))
-    }
-
-    fn worth<V: Valuation>(&self, valuation: &V, amounts: [i64; COUNT]) -> i64
-        requires { (c : Currency) → InRange (amount_in amounts c) }
-        ensures answer { result ≡ worth V.meaning (market_at self.now) (state_in self.now).base (amount_in amounts) currencies }
+    // What the amounts that a function gives are worth.
+    fn worth<V: Valuation, F: Fn(Currency) -> i64>(&self, valuation: &V, amount: F) -> i64
+        requires callable { F.IsAlwaysCallable amount }
+        requires ranged { EachInRange (F.post amount) }
+        ensures answer { (t : Currency → ℤ) → Gives (F.post amount) t → result ≡ worth V.meaning (market_at self.now) (state_in self.now).base t currencies }
         ensures small { AllPoints result }
     {
         let mut sum = 0;
         for currency in ALL {
-            sum += self.points(valuation, currency, amounts[currency.index()]);
+            sum += self.points(valuation, currency, amount(currency));
         }
         sum
     }
