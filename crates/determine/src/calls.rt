@@ -60,12 +60,7 @@ impl Case {
     fn first_open(&self) -> Option<Currency>
         ensures { result ≡ first_of (market_at self.now).is_open (state_in self.now).priority }
     {
-        self.first_open_of(&self.account.priority())
-    }
-
-    fn first_open_of(&self, order: &[Currency; COUNT]) -> Option<Currency>
-        ensures { result ≡ first_of (market_at self.now).is_open order.now }
-    {
+        let order = self.account.priority();
         order
             .iter()
             .copied()

@@ -10,6 +10,6 @@ mod calls;
 /// The quote of each currency, in book order. Every rate lies in its range; no other market can be made.
 #[derive(Clone, Copy)]
 pub struct Market {
-    quotes: [Quote; COUNT],
+    quotes: [Quote<i64>; COUNT],
     ghost rated: { are_rates quotes ≡ true },
 }

@@ -1,9 +1,9 @@
 //! Quotes.
 use money::status::Status;
 
-/// The rate of a currency, and whether payments are made in it today.
+/// The rate of a currency, or what is known of it, and whether payments are made in the currency today.
 #[derive(Clone, Copy)]
-pub struct Quote {
-    pub rate: i64,
+pub struct Quote<R> {
+    pub rate: R,
     pub status: Status,
 }

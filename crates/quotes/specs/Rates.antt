@@ -31,7 +31,7 @@ abbrev pub status_in : List Status → Currency → Status
 status_in statuses c = slice_index_or statuses (place c) Open
 
 -- the quote of a currency
-abbrev pub quote_in : List (Option ℤ) → List Status → Currency → Quote
+abbrev pub quote_in : List (Option ℤ) → List Status → Currency → Quote ℤ
 quote_in rates statuses c = record { rate = given_rate rates c; status = status_in statuses c }
 
 -- the rates and the open currencies that a determination is made by

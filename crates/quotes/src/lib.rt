@@ -1,5 +1,4 @@
 //! The rates and statuses that a book was given, of which some may be missing still.
 #![tactic(auto)]
 
-mod given;
 pub mod quotes;

@@ -13,7 +13,7 @@ use money::status::Status;
 
 impl Market {
     /// The market of these quotes, in book order; none where a rate is out of range.
-    pub fn new(quotes: [Quote; COUNT]) -> Option<Market>
+    pub fn new(quotes: [Quote<i64>; COUNT]) -> Option<Market>
         ensures { option_map market_in result ≡ market_answer quotes }
     {
         if are_in_range(&quotes) {
@@ -39,7 +39,7 @@ impl Market {
     }
 }
 
-fn are_in_range(quotes: &[Quote; COUNT]) -> bool
+fn are_in_range(quotes: &[Quote<i64>; COUNT]) -> bool
     ensures { result ≡ every is_rated quotes.now }
 {
     quotes.iter().all(|quote| RATE.holds(quote.rate))

@@ -7,7 +7,6 @@ ghost use Rattle.quotes.specs.Quoted.{rates_in, statuses_in, chosen_rates, quote
 ghost use Rattle.quotes.specs.Rates.{rate_of, missing_in, quote_in, quoted_answer};
 
 use super::Quotes;
-use crate::given::Given;
 use account::check::check_rate;
 use account::fault::AccountFault;
 use determine::market::Market;
@@ -21,7 +20,7 @@ impl Quotes {
         ensures rates { rates_in result ≡ replicate (length currencies) None }
         ensures statuses { statuses_in result ≡ replicate (length currencies) Open }
     {
-        let nothing = Given {
+        let nothing = Quote {
             rate: None,
             status: Status::Open,
         };
@@ -65,20 +64,17 @@ impl Quotes {
         if let Some(currency) = self.missing() {
             return Err(currency);
         }
-        match Market::new(self.quoted()) {
-            Some(market) => Ok(market),
-            None => unreachable!(),
-        }
+        Ok(Market::new(self.quoted()).unwrap())
     }
 
     // The quote of each currency; its rate is 0 where there is none.
-    fn quoted(&self) -> [Quote; COUNT]
+    fn quoted(&self) -> [Quote<i64>; COUNT]
         ensures { result ≡ map (quote_in (rates_in self.now) (statuses_in self.now)) currencies }
     {
         ALL.map(|currency| self.quote_of(currency))
     }
 
-    fn quote_of(&self, currency: Currency) -> Quote
+    fn quote_of(&self, currency: Currency) -> Quote<i64>
         ensures { result ≡ quote_in (rates_in self.now) (statuses_in self.now) currency }
     {
         let given = self.given[currency.index()];
