@@ -1,13 +1,14 @@
 //! Figures are tested here, since a figure out of range is the account layer's to tell.
 ghost use Rattle.std.specs.Prelude.{◌≡◌, Some};
 ghost use Rattle.account.specs.Faults.{out_of_range};
-ghost use Rattle.account.specs.Checks.{range_answer, rate_answer, status_answer};
+ghost use Rattle.account.specs.Checks.{range_answer, rate_answer, status_answer, figures_answer};
+ghost use Rattle.money.specs.Ranges.{within};
 
 use crate::fault::AccountFault;
 use money::cause::AccountCause;
 use money::code::Code;
 use money::currency::Currency;
-use money::range::RATE;
+use money::range::{FIGURE, RATE, Range};
 use money::status::Status;
 
 fn out_of_range(code: Option<Code>, currency: Currency) -> AccountFault
@@ -20,8 +21,7 @@ fn out_of_range(code: Option<Code>, currency: Currency) -> AccountFault
     }
 }
 
-/// Refuses figures that are not inside their ranges.
-pub fn expect(inside: bool, code: Option<Code>, currency: Currency) -> Result<(), AccountFault>
+fn expect(inside: bool, code: Option<Code>, currency: Currency) -> Result<(), AccountFault>
     ensures { result ≡ range_answer inside code currency }
 {
     if inside {
@@ -30,11 +30,35 @@ pub fn expect(inside: bool, code: Option<Code>, currency: Currency) -> Result<()
     Err(out_of_range(code, currency))
 }
 
+/// Refuses a figure that is out of its range: a deposit, a callback, a settlement.
+pub fn check(
+    range: Range,
+    figure: i64,
+    code: Option<Code>,
+    currency: Currency,
+) -> Result<(), AccountFault>
+    ensures { result ≡ range_answer (within range figure) code currency }
+{
+    expect(range.holds(figure), code, currency)
+}
+
+/// Refuses a limit with its excess, or a requirement with its non-cash value, where either is out of range.
+pub fn check_figures(
+    code: Option<Code>,
+    currency: Currency,
+    first: i64,
+    second: i64,
+) -> Result<(), AccountFault>
+    ensures { result ≡ figures_answer code currency first second }
+{
+    expect(FIGURE.holds(first) && FIGURE.holds(second), code, currency)
+}
+
 /// Refuses a rate that is out of range.
 pub fn check_rate(currency: Currency, rate: i64) -> Result<(), AccountFault>
     ensures { result ≡ rate_answer currency rate }
 {
-    expect(RATE.holds(rate), None, currency)
+    check(RATE, rate, None, currency)
 }
 
 /// The status that a holiday flag gives; a flag that is neither 0 nor 1 is refused.
