@@ -1,7 +1,7 @@
 //! Figures are tested here, since a figure out of range is the account layer's to tell.
-ghost use Rattle.std.specs.Prelude.{◌≡◌, Some};
+ghost use Rattle.std.specs.Prelude.{◌≡◌, Some, true, false, OnOk, OnErr};
 ghost use Rattle.account.specs.Faults.{out_of_range};
-ghost use Rattle.account.specs.Checks.{range_answer, rate_answer, status_answer, figures_answer};
+ghost use Rattle.account.specs.Checks.{range_answer, rate_answer, status_answer, are_figures, figures_answer};
 ghost use Rattle.money.specs.Ranges.{within};
 
 use crate::fault::AccountFault;
@@ -37,7 +37,9 @@ pub fn check(
     code: Option<Code>,
     currency: Currency,
 ) -> Result<(), AccountFault>
-    ensures { result ≡ range_answer (within range figure) code currency }
+    ensures answer { result ≡ range_answer (within range figure) code currency }
+    ensures ok { OnOk result (within range figure ≡ true) }
+    ensures err { OnErr result (within range figure ≡ false) }
 {
     expect(range.holds(figure), code, currency)
 }
@@ -49,7 +51,9 @@ pub fn check_figures(
     first: i64,
     second: i64,
 ) -> Result<(), AccountFault>
-    ensures { result ≡ figures_answer code currency first second }
+    ensures answer { result ≡ figures_answer code currency first second }
+    ensures ok { OnOk result (are_figures first second ≡ true) }
+    ensures err { OnErr result (are_figures first second ≡ false) }
 {
     expect(FIGURE.holds(first) && FIGURE.holds(second), code, currency)
 }

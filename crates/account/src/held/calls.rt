@@ -4,12 +4,12 @@ ghost use Rattle.account.specs.Accounts.{figures_in, with_figures, new_account, 
 ghost use Rattle.account.specs.Amounts.{standing_amount};
 ghost use Rattle.account.specs.Answers.{state_of, fault_on, deposit_answer, settlement_answer, callback_answer, limits_answer, margin_answer, chosen};
 ghost use Rattle.account.specs.Bookings.{with_limits, with_margin, deposit_booked, settlement_booked, callback_booked, change_figures};
-ghost use Rattle.account.specs.Checks.{are_figures};
 
 use super::Account;
 use super::holding::Holding;
 use crate::account::{AccountState, Figures, NO_FIGURES};
 use crate::booking::Callback;
+use crate::check::{check, check_figures};
 use crate::fault::AccountFault;
 use crate::priority::Priority;
 use crate::terms::{DebitSetting, Level};
@@ -65,9 +65,7 @@ impl Account {
         ensures answer { result ≡ deposit_answer (state_of self.old) currency amount }
         ensures after { state_of self.new ≡ chosen result (state_of self.old) (change_figures (deposit_booked amount) currency (state_of self.old)) }
     {
-        if !PAYMENT.holds(amount) {
-            return Err(self.fault_on(currency, AccountCause::OutOfRange));
-        }
+        check(PAYMENT, amount, Some(self.state.code), currency)?;
         let holding = self.holding(currency);
         let cash = holding.cash_with(amount);
         if !FIGURE.holds(cash) {
@@ -83,9 +81,7 @@ impl Account {
         ensures answer { result ≡ settlement_answer (state_of self.old) currency amount }
         ensures after { state_of self.new ≡ chosen result (state_of self.old) (change_figures (settlement_booked amount) currency (state_of self.old)) }
     {
-        if !SETTLEMENT.holds(amount) {
-            return Err(self.fault_on(currency, AccountCause::OutOfRange));
-        }
+        check(SETTLEMENT, amount, Some(self.state.code), currency)?;
         let holding = self.holding(currency);
         let settlement = holding.settlement_with(amount);
         if !SETTLEMENT.holds(settlement) {
@@ -105,9 +101,7 @@ impl Account {
         ensures answer { result ≡ limits_answer (state_of self.old) currency limit excess }
         ensures after { state_of self.new ≡ chosen result (state_of self.old) (change_figures (with_limits limit excess) currency (state_of self.old)) }
     {
-        if !are_figures(limit, excess) {
-            return Err(self.fault_on(currency, AccountCause::OutOfRange));
-        }
+        check_figures(Some(self.state.code), currency, limit, excess)?;
         let holding = self.holding(currency);
         self.put(currency, holding.with_limits(limit, excess));
         Ok(())
@@ -123,9 +117,7 @@ impl Account {
         ensures answer { result ≡ margin_answer (state_of self.old) currency requirement non_cash }
         ensures after { state_of self.new ≡ chosen result (state_of self.old) (change_figures (with_margin requirement non_cash) currency (state_of self.old)) }
     {
-        if !are_figures(requirement, non_cash) {
-            return Err(self.fault_on(currency, AccountCause::OutOfRange));
-        }
+        check_figures(Some(self.state.code), currency, requirement, non_cash)?;
         let holding = self.holding(currency);
         self.put(currency, holding.with_margin(requirement, non_cash));
         Ok(())
@@ -176,9 +168,7 @@ impl Account {
         ensures answer { result ≡ callback_answer (state_of self.old) currency callback }
         ensures after { state_of self.new ≡ chosen result (state_of self.old) (change_figures (callback_booked callback.amount) currency (state_of self.old)) }
     {
-        if !PAYMENT.holds(callback.amount) {
-            return Err(self.fault_on(currency, AccountCause::OutOfRange));
-        }
+        check(PAYMENT, callback.amount, Some(self.state.code), currency)?;
         let holding = self.holding(currency);
         if !holding.grants(callback) {
             return Err(self.fault_on(currency, AccountCause::PastCeiling));
@@ -200,10 +190,4 @@ impl Account {
     {
         self.state.figures[currency.index()] = holding.figures;
     }
-}
-
-fn are_figures(first: i64, second: i64) -> bool
-    ensures { result ≡ are_figures first second }
-{
-    FIGURE.holds(first) && FIGURE.holds(second)
 }
