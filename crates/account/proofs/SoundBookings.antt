@@ -1,20 +1,12 @@
 -- Figures stay in their ranges where others that lie in theirs are put in.
 use Rattle.std.proofs.Common.{◌≡◌, true, ℤ}
 use Rattle.std.proofs.lemmas.Bool.{and_parts}
-use Rattle.money.specs.Ranges.{within, figure_range, settlement_range}
+use Rattle.money.specs.Ranges.{within, figure_range}
 use Rattle.account.specs.declared.account.Figures.{Figures}
 use Rattle.account.specs.Accounts.{Ranged}
-use Rattle.account.specs.Bookings.{with_cash, with_settlement, with_limits, with_margin}
+use Rattle.account.specs.Bookings.{with_limits, with_margin}
 use Rattle.account.specs.Checks.{are_figures}
-use Rattle.account.proofs.Ranges.{figure, within-says}
-
-pub ranged-cash : (f : Figures) (x : ℤ) → Ranged f → within figure_range x ≡ true → Ranged (with_cash x f)
-ranged-cash f x r in-range = record { cash = figure x in-range; limit = r.limit; excess = r.excess; non_cash = r.non_cash; requirement = r.requirement; lowest = r.lowest; highest = r.highest }
-
-pub ranged-settlement : (f : Figures) (x : ℤ) → Ranged f → within settlement_range x ≡ true → Ranged (with_settlement x f)
-ranged-settlement f x r in-range =
-    let p = within-says settlement_range x in-range in
-    record { cash = r.cash; limit = r.limit; excess = r.excess; non_cash = r.non_cash; requirement = r.requirement; lowest = p.0; highest = p.1 }
+use Rattle.account.proofs.Ranges.{figure}
 
 pub ranged-limits : (f : Figures) (limit excess : ℤ) → Ranged f → are_figures limit excess ≡ true → Ranged (with_limits limit excess f)
 ranged-limits f limit excess r in-range =

@@ -25,7 +25,7 @@ impl Code {
             return None;
         };
         let code = Code(a, b, c, d, e, f, g, h);
-        if code.is_formed() { Some(code) } else { None }
+        code.is_formed().then_some(code)
     }
 
     fn is_formed(self) -> bool

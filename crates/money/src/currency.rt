@@ -63,8 +63,7 @@ impl Currency {
     fn characters(self) -> [char; 3]
         ensures { spelt result ≡ letters self }
     {
-        let [a, b, c] = self.letters();
-        [char::from(a), char::from(b), char::from(c)]
+        self.letters().map(char::from)
     }
 
     fn is_written(self, text: &[u8]) -> bool
