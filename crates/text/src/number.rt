@@ -38,7 +38,7 @@ fn below_zero(digits: &[u8]) -> Option<i64>
     ensures { result ≡ before (natural digits.now) below_zero }
 {
     let n = natural_number(digits)?;
-    if n == 0 { None } else { Some(-(n as i64)) }
+    (n != 0).then_some(-(n as i64))
 }
 
 fn from_zero(digits: &[u8]) -> Option<i64>
