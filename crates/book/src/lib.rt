@@ -2,5 +2,4 @@
 #![tactic(auto)]
 
 pub mod book;
-
-pub use request::fault;
+pub mod order;
