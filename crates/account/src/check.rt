@@ -1,13 +1,13 @@
 //! Figures are tested here, since a figure out of range is the account layer's to tell.
 ghost use Rattle.std.specs.Prelude.{◌≡◌, Some};
 ghost use Rattle.account.specs.Faults.{out_of_range};
-ghost use Rattle.account.specs.Checks.{range_answer, rate_answer, status_answer};
+ghost use Rattle.account.specs.Checks.{are_figures, range_answer, rate_answer, status_answer};
 
 use crate::fault::AccountFault;
 use money::cause::AccountCause;
 use money::code::Code;
 use money::currency::Currency;
-use money::range::RATE;
+use money::range::{FIGURE, RATE};
 use money::status::Status;
 
 fn out_of_range(code: Option<Code>, currency: Currency) -> AccountFault
@@ -28,6 +28,13 @@ pub fn expect(inside: bool, code: Option<Code>, currency: Currency) -> Result<()
         return Ok(());
     }
     Err(out_of_range(code, currency))
+}
+
+/// Whether two figures, such as a limit and an excess, both lie in their range.
+pub fn are_figures(first: i64, second: i64) -> bool
+    ensures { result ≡ are_figures first second }
+{
+    FIGURE.holds(first) && FIGURE.holds(second)
 }
 
 /// Refuses a rate that is out of range.

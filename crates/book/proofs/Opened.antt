@@ -23,7 +23,7 @@ use Rattle.history.specs.States.{State}
 use Rattle.history.specs.Steps.{refused, changed, unless, step}
 use Rattle.history.proofs.Named.{or_same-some}
 use Rattle.history.proofs.Tests.{none_told}
-use Rattle.book.specs.declared.order.Opening.{Opening}
+use Rattle.request.specs.declared.order.Opening.{Opening}
 use Rattle.book.specs.Orders.{opening_call}
 use Rattle.book.specs.Openings.{code_faults, room_faults, opening_faults, IsFree, Opens}
 

@@ -1,8 +1,8 @@
 -- The call that an order is.
 use Rattle.history.specs.Calls.{Call, set_rate, set_holiday, open_account, set_limits, set_margin, deposit, settle}
-use Rattle.book.specs.declared.order.Opening.{Opening}
-use Rattle.book.specs.declared.order.Order.{Order}
-use Rattle.book.specs.declared.order.Order.TheVariants.{Rate, Holiday, Opening as Open, Limits, Margin, Deposit, Settlement}
+use Rattle.request.specs.declared.order.Opening.{Opening}
+use Rattle.request.specs.declared.order.Order.{Order}
+use Rattle.request.specs.declared.order.Order.TheVariants.{Rate, Holiday, Opening as Open, Limits, Margin, Deposit, Settlement}
 
 abbrev pub opening_call : Opening → Call
 opening_call o = open_account o.code.now o.number o.base.now o.level o.setting o.priority.now

@@ -4,12 +4,12 @@ ghost use Rattle.account.specs.Accounts.{figures_in, with_figures, new_account, 
 ghost use Rattle.account.specs.Amounts.{standing_amount};
 ghost use Rattle.account.specs.Answers.{state_of, fault_on, deposit_answer, settlement_answer, callback_answer, limits_answer, margin_answer, chosen};
 ghost use Rattle.account.specs.Bookings.{with_limits, with_margin, deposit_booked, settlement_booked, callback_booked, change_figures};
-ghost use Rattle.account.specs.Checks.{are_figures};
 
 use super::Account;
 use super::holding::Holding;
 use crate::account::{AccountState, Figures, NO_FIGURES};
 use crate::booking::Callback;
+use crate::check::are_figures;
 use crate::fault::AccountFault;
 use crate::priority::Priority;
 use crate::terms::{DebitSetting, Level};
@@ -200,10 +200,4 @@ impl Account {
     {
         self.state.figures[currency.index()] = holding.figures;
     }
-}
-
-fn are_figures(first: i64, second: i64) -> bool
-    ensures { result ≡ are_figures first second }
-{
-    FIGURE.holds(first) && FIGURE.holds(second)
 }

@@ -12,7 +12,6 @@ ghost use Rattle.request.specs.Causes.{first_told};
 ghost use Rattle.request.specs.Faults.{told};
 
 use super::{Book, MOST_ACCOUNTS, MOST_NUMBERS};
-use crate::order::Opening;
 use account::held::Account;
 use history::optimization::OptimizationAccount;
 use money::cause::BookCause;
@@ -21,6 +20,7 @@ use money::currency::Currency;
 use register::{find, insertion_point};
 use request::fault::BookFault;
 use request::opening::Terms;
+use request::order::Opening;
 use request::subject::Subject;
 use valuation::valuation::Valuation;
 

@@ -8,8 +8,8 @@ ghost use Rattle.money.specs.Refusals.{refusal_of};
 ghost use Rattle.request.specs.Faults.{told};
 
 use super::Book;
-use crate::order::Order;
 use request::fault::BookFault;
+use request::order::Order;
 use valuation::valuation::Valuation;
 
 impl<V: Valuation> Book<V> {

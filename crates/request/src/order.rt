@@ -1,4 +1,4 @@
-//! Orders.
+//! Orders, which are calls of the book.
 
 /// The opening of an account, with its fields as they came in.
 #[derive(Clone, Copy)]
