@@ -127,21 +127,21 @@ becomes s code number base level setting priority a o =
 pub faulty : {X : Type 0} (r : Result X BookFault) (f : BookFault) (o : Option Told) (P : X → Type 0) → r ≡ Err f → Some (told f) ≡ o → (refusal_of told r ≡ o) × IfOk r P
 faulty r f o P is e = (ap (refusal_of told) is ∙ e, subst (λ r. IfOk r P) (sym is) tt)
 
--- an opening by the subject that its texts name, and its numbers as they were passed on
-module _ (v : Valuation) (s : State) (o : Opening) (subject : Subject) (n l d : ℤ) (named : subject ≡ subject_of o.code.now o.base.now) (is_number : n ≡ o.number) (is_level : l ≡ o.level) (is_setting : d ≡ o.setting) where
-  abbrev tests : Subject → ℤ → ℤ → ℤ → Option Told
-  tests sub n l d = first_told (opening_faults v s sub.code n sub.currency l d o.priority.now)
+-- an opening by the subject that its texts name
+module _ (v : Valuation) (s : State) (o : Opening) (subject : Subject) (named : subject ≡ subject_of o.code.now o.base.now) where
+  abbrev tests : Subject → Option Told
+  tests sub = first_told (opening_faults v s sub.code o.number sub.currency o.level o.setting o.priority.now)
 
-  same : tests subject n l d ≡ refused v s (opening_call o)
-  same = λ i. tests (named i) (is_number i) (is_level i) (is_setting i)
+  same : tests subject ≡ refused v s (opening_call o)
+  same = ap tests named
 
-  pub opening-stopped : (f : BookFault) (r : Result Unit BookFault) → r ≡ Err f → Some (told f) ≡ tests subject n l d → (refusal_of told r ≡ refused v s (opening_call o)) × (s ≡ step v s (opening_call o))
+  pub opening-stopped : (f : BookFault) (r : Result Unit BookFault) → r ≡ Err f → Some (told f) ≡ tests subject → (refusal_of told r ≡ refused v s (opening_call o)) × (s ≡ step v s (opening_call o))
   opening-stopped f r is e =
       let refusal : Some (told f) ≡ refused v s (opening_call o) = e ∙ same in
       (ap (refusal_of told) is ∙ refusal, ap (λ t. unless t s (changed v s (opening_call o))) refusal)
 
-  pub opening-done : (a : AccountState) (t : State) → None ≡ tests subject n l d → Opens s subject.code n subject.currency l d o.priority.now a → t ≡ with_opened s a → (None ≡ refused v s (opening_call o)) × (t ≡ step v s (opening_call o))
-  opening-done a t e IfOk after =
+  pub opening-done : (a : AccountState) (t : State) → None ≡ tests subject → Opens s subject.code o.number subject.currency o.level o.setting o.priority.now a → t ≡ with_opened s a → (None ≡ refused v s (opening_call o)) × (t ≡ step v s (opening_call o))
+  opening-done a t e is after =
       let refusal : None ≡ refused v s (opening_call o) = e ∙ same in
-      let opens : Opens s (code_of o.code.now) o.number (currency_of o.base.now) o.level o.setting o.priority.now a = coe 0 1 (i. Opens s (named i).code (is_number i) (named i).currency (is_level i) (is_setting i) o.priority.now a) IfOk in
+      let opens = subst (λ (sub : Subject). Opens s sub.code o.number sub.currency o.level o.setting o.priority.now a) named is in
       (refusal, after ∙ sym (becomes s o.code.now o.number o.base.now o.level o.setting o.priority.now a opens) ∙ ap (λ t. unless t s (changed v s (opening_call o))) refusal)

@@ -1,5 +1,6 @@
 //! Openings.
-ghost use Rattle.std.specs.Prelude.{◌≡◌, false, not, ◌&&◌, IfOk, Some, None};
+ghost use Rattle.std.specs.Prelude.{◌≡◌, ◌≤◌, ◌<◌, ◌+◌, false, not, ◌&&◌, IfOk, Some, None, vec_len, vec_capacity, vec_items};
+ghost use Rattle.std.specs.List.{insert};
 ghost use Rattle.account.specs.Answers.{state_of};
 ghost use Rattle.book.specs.Books.{meaning};
 ghost use Rattle.book.specs.Openings.{code_faults, room_faults, opening_faults, is_full_of_accounts, is_full_of_numbers, IsFree, Opens};
@@ -32,31 +33,24 @@ impl<V: Valuation> Book<V> {
         ensures valued { self.new.valuation ≡ self.old.valuation }
     {
         let subject = Subject::read(opening.code, opening.base);
-        let account = self.new_account(
+        let account = self.new_account(subject, opening)?;
+        self.insert(account);
+        Ok(())
+    }
+
+    // The account that an opening makes, if nothing stands against it.
+    fn new_account(&self, subject: Subject, opening: Opening<'_>) -> Result<Account, BookFault>
+        ensures answer { refusal_of told result ≡ first_told (opening_faults V.meaning (meaning self.now) subject.code opening.entry.number subject.currency opening.entry.level opening.entry.setting opening.entry.priority.now) }
+        ensures account { IfOk result (λ a. Opens (meaning self.now) subject.code opening.entry.number subject.currency opening.entry.level opening.entry.setting opening.entry.priority.now (state_of a)) }
+    {
+        let code = self.free_code(subject)?;
+        let terms = Terms::read(
             subject,
             opening.number,
             opening.level,
             opening.setting,
             opening.priority,
         )?;
-        self.insert(account);
-        Ok(())
-    }
-
-    // The account that an opening makes, if nothing stands against it.
-    fn new_account(
-        &self,
-        subject: Subject,
-        number: i64,
-        level: i64,
-        setting: i64,
-        priority: &[u8],
-    ) -> Result<Account, BookFault>
-        ensures answer { refusal_of told result ≡ first_told (opening_faults V.meaning (meaning self.now) subject.code number subject.currency level setting priority.now) }
-        ensures account { IfOk result (λ a. Opens (meaning self.now) subject.code number subject.currency level setting priority.now (state_of a)) }
-    {
-        let code = self.free_code(subject)?;
-        let terms = Terms::read(subject, number, level, setting, priority)?;
         self.check_room(subject, terms.base, terms.number)?;
         Ok(Account::new(
             code,
@@ -91,7 +85,7 @@ impl<V> Book<V> {
     {
         self.check_idle(subject)?;
         let code = subject.known_code()?;
-        if let Some(_) = self.place_of(code) {
+        if self.place_of(code).is_some() {
             return Err(subject.fault(BookCause::CodeHeld));
         }
         Ok(code)
@@ -155,14 +149,8 @@ impl<V> Book<V> {
     {
         let code = account.code();
         let at = insertion_point(self.codes.as_slice(), &code);
-        match self.codes.insert(at, code) {
-            Ok(()) => {}
-            Err(_) => unreachable!(),
-        }
-        match self.accounts.rows.insert(at, account) {
-            Ok(()) => {}
-            Err(_) => unreachable!(),
-        }
+        insert_within(&mut self.codes, at, code);
+        insert_within(&mut self.accounts, at, account);
     }
 
     // Puts a new optimization number at its place; it is not stopped.
@@ -173,17 +161,25 @@ impl<V> Book<V> {
         ensures valued { self.new.valuation ≡ self.old.valuation }
     {
         let at = insertion_point(self.numbers.as_slice(), &number);
-        match self.numbers.insert(at, number) {
-            Ok(()) => {}
-            Err(_) => unreachable!(),
-        }
+        insert_within(&mut self.numbers, at, number);
         let opened = OptimizationAccount {
             number,
             stopped: false,
         };
-        match self.optimizations.insert(at, opened) {
-            Ok(()) => {}
-            Err(_) => unreachable!(),
-        }
+        insert_within(&mut self.optimizations, at, opened);
+    }
+}
+
+// Puts an item at its place among those of a row that has room for it.
+fn insert_within<T: Drop>(row: &mut Vec<T>, at: usize, item: T)
+    requires place { at ≤ vec_len row.old }
+    requires room { vec_len row.old < vec_capacity row.old }
+    ensures items { vec_items row.new ≡ insert (vec_items row.old) at item }
+    ensures len { vec_len row.new ≡ vec_len row.old + 1 }
+    ensures capacity { vec_capacity row.new ≡ vec_capacity row.old }
+{
+    match row.insert(at, item) {
+        Ok(()) => {}
+        Err(_) => unreachable!(),
     }
 }

@@ -45,9 +45,7 @@ impl<V> Book<V> {
         ensures place { IfOk result (HeldAt (meaning self.now) subject.code) }
     {
         let code = subject.known_code()?;
-        match self.place_of(code) {
-            Some(at) => Ok(at),
-            None => Err(subject.fault(BookCause::CodeAbsent)),
-        }
+        self.place_of(code)
+            .ok_or(subject.fault(BookCause::CodeAbsent))
     }
 }

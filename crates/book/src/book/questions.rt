@@ -25,10 +25,7 @@ impl<V> Book<V> {
     pub fn is_held(&self, code: &[u8]) -> bool
         ensures { result ≡ is_held (meaning self.now) code.now }
     {
-        match Code::read(code) {
-            Some(code) => self.place_of(code).is_some(),
-            None => false,
-        }
+        Code::read(code).is_some_and(|code| self.place_of(code).is_some())
     }
 
     /// The figures of an account in a currency.
@@ -39,6 +36,6 @@ impl<V> Book<V> {
         let subject = Subject::read(code, currency);
         let at = self.held_at(subject)?;
         let currency = subject.known_currency()?;
-        Ok(self.accounts.rows[at].figures(currency))
+        Ok(self.accounts[at].figures(currency))
     }
 }
