@@ -36,7 +36,7 @@ fn number_number(fields: &[u8]) -> Option<(i64, i64)>
     Some((number(first)?, number(second)?))
 }
 
-fn text_text_number_number(fields: &[u8]) -> Option<(&[u8], &[u8], i64, i64)>
+fn texts_numbers(fields: &[u8]) -> Option<(&[u8], &[u8], i64, i64)>
     ensures { held_text_text_number_number result ≡ text_text_number_number fields.now }
 {
     let (first, rest) = cut(fields, b'\t')?;
@@ -93,23 +93,13 @@ fn field_line(letter: u8, fields: &[u8]) -> Option<Order<'_>>
         b'R' => text_number(fields).map(|(currency, rate)| Order::Rate { currency, rate }),
         b'H' => text_number(fields).map(|(currency, flag)| Order::Holiday { currency, flag }),
         b'A' => opening(fields),
-        b'L' => text_text_number_number(fields).map(|(
-            code,
-            currency,
-            limit,
-            excess,
-        )| Order::Limits {
+        b'L' => texts_numbers(fields).map(|(code, currency, limit, excess)| Order::Limits {
             code,
             currency,
             limit,
             excess,
         }),
-        b'M' => text_text_number_number(fields).map(|(
-            code,
-            currency,
-            requirement,
-            non_cash,
-        )| Order::Margin {
+        b'M' => texts_numbers(fields).map(|(code, currency, requirement, non_cash)| Order::Margin {
             code,
             currency,
             requirement,
