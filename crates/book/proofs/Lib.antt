@@ -1,0 +1,11 @@
+pub mod Keyed
+pub mod Placed
+pub mod InPlace
+pub mod Booked
+pub mod Rooms
+pub mod Inserted
+pub mod Opened
+pub mod Asked
+pub mod Marketed
+pub mod Stopped
+pub mod CalledBack

@@ -1,1 +1,9 @@
+pub mod Rows
 pub mod Books
+pub mod Places
+pub mod Bookings
+pub mod Openings
+pub mod Questions
+pub mod Standings
+pub mod Callbacks
+pub mod Orders

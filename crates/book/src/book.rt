@@ -1,77 +1,55 @@
-//! The book.
-ghost use Rattle.std.specs.Prelude.{◌≡◌};
-ghost use Rattle.book.specs.Books.{meaning, call_currency};
-ghost use Rattle.request.specs.Faults.{told};
-ghost use Rattle.history.specs.Bookings.{rate_refusal, rate_set, holiday_refusal, holiday_set};
-ghost use Rattle.history.specs.States.{new_state};
-ghost use Rattle.history.specs.Steps.{unless};
-ghost use Rattle.money.specs.Currencies.{currency_of};
-ghost use Rattle.money.specs.Refusals.{refusal_of};
+//! The book in memory.
+ghost use Rattle.std.specs.Prelude.{◌≡◌, ◌≤◌, true, vec_len, vec_capacity};
+ghost use Rattle.book.specs.Rows.{codes_of, numbers_of};
+ghost use Rattle.money.specs.CodeOrders.{code_order};
+ghost use Rattle.register.specs.Rows.{ascending};
+ghost use Rattle.std.specs.Ordering.{nat_cmp};
 
-use account::check::read_status;
+use account::held::Account;
+use history::optimization::OptimizationAccount;
 use history::run::OpenRun;
-use money::cause::BookCause;
-use money::currency::Currency;
+use money::code::Code;
 use quotes::quotes::Quotes;
-use request::fault::BookFault;
-use request::subject::Subject;
+
+mod bookings;
+mod callbacks;
+mod making;
+mod opening;
+mod performing;
+mod places;
+mod questions;
+mod rates;
+mod standings;
+
+/// The most accounts that a book holds.
+pub const MOST_ACCOUNTS: usize = 64;
+
+/// The most optimization accounts that a book holds.
+pub const MOST_NUMBERS: usize = 16;
 
 /// A book of one member, with the valuation that it has for life.
+/// Room for all accounts is there from its making on.
 #[derive(Drop)]
 pub struct Book<V> {
     number: u32,
     valuation: V,
     quotes: Quotes,
+    /// The codes of the accounts, in their order.
+    codes: Vec<Code>,
+    accounts: Vec<Account>,
+    /// The numbers of the optimization accounts, in their order.
+    numbers: Vec<u32>,
+    optimizations: Vec<OptimizationAccount>,
     running: Option<OpenRun>,
     runs: u32,
-}
-
-impl<V> Book<V> {
-    /// A book with no rates and all currencies open.
-    pub fn new(number: u32, valuation: V) -> Self
-        ensures meaning { meaning result ≡ new_state number }
-        ensures valued { result.valuation ≡ valuation }
-    {
-        Book {
-            number,
-            valuation,
-            quotes: Quotes::new(),
-            running: None,
-            runs: 0,
-        }
-    }
-
-    /// Gives a currency its rate, in place of the old one.
-    pub fn set_rate(&mut self, currency: &[u8], rate: i64) -> Result<(), BookFault>
-        ensures answer { refusal_of told result ≡ rate_refusal (meaning self.old) currency.now rate }
-        ensures after { meaning self.new ≡ unless (rate_refusal (meaning self.old) currency.now rate) (meaning self.old) (rate_set (meaning self.old) currency.now rate) }
-        ensures valued { self.new.valuation ≡ self.old.valuation }
-    {
-        let currency = self.open_for(currency)?;
-        self.quotes.set_rate(currency, rate)?;
-        Ok(())
-    }
-
-    /// Shuts a currency for its holiday (flag 1), or opens it again (flag 0).
-    pub fn set_holiday(&mut self, currency: &[u8], flag: i64) -> Result<(), BookFault>
-        ensures answer { refusal_of told result ≡ holiday_refusal (meaning self.old) currency.now flag }
-        ensures after { meaning self.new ≡ unless (holiday_refusal (meaning self.old) currency.now flag) (meaning self.old) (holiday_set (meaning self.old) currency.now flag) }
-        ensures valued { self.new.valuation ≡ self.old.valuation }
-    {
-        let currency = self.open_for(currency)?;
-        let status = read_status(currency, flag)?;
-        self.quotes.set_status(currency, status);
-        Ok(())
-    }
-
-    // The currency of a call that no open run stands against.
-    fn open_for(&self, currency: &[u8]) -> Result<Currency, BookFault>
-        ensures { result ≡ call_currency (meaning self.now) (currency_of currency.now) }
-    {
-        let subject = Subject::of_currency(currency);
-        if self.running.is_some() {
-            return Err(subject.fault(BookCause::RunOpen));
-        }
-        subject.known_currency()
-    }
+    ghost coded: { codes_of accounts.items ≡ codes.items },
+    ghost rising: { ascending code_order codes.items ≡ true },
+    ghost numbered: { numbers_of optimizations.items ≡ numbers.items },
+    ghost climbing: { ascending nat_cmp numbers.items ≡ true },
+    ghost few: { vec_len codes ≤ 64 },
+    ghost less: { vec_len numbers ≤ 16 },
+    ghost roomy: { 64 ≤ vec_capacity codes },
+    ghost wide: { 64 ≤ vec_capacity accounts },
+    ghost spare: { 16 ≤ vec_capacity numbers },
+    ghost broad: { 16 ≤ vec_capacity optimizations },
 }

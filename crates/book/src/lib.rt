@@ -3,4 +3,4 @@
 
 pub mod book;
 
-pub use request::fault;
+pub use request::{fault, order};

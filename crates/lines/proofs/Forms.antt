@@ -6,11 +6,11 @@ use Rattle.text.specs.Cuts.{cut_at, Free}
 use Rattle.text.specs.Numbers.{Short}
 use Rattle.text.proofs.CutLaws.{some_same, cut-says, cut-reads, free-joined}
 use Rattle.text.proofs.Spellings.{before-some, if-then, number-free}
-use Rattle.lines.specs.Lines.{Line, rate, holiday, letter, fields, ended, Word, Good, Form, text_number, of_text_number, fielded, lettered, body_of, parsed}
-use Rattle.lines.specs.declared.entry.Entry.{Entry}
+use Rattle.lines.specs.Lines.{Line, rate, holiday, opening, limits, margin, deposit, settlement, letter, fields, ended, written, Word, Good, Form, text_number, text_text_number, text_text_number_number, opening_of, of_text_number, of_text_text_number, of_text_text_number_number, fielded, lettered, body_of, parsed}
+use Rattle.request.specs.declared.order.Order.{Order}
 use Rattle.lines.specs.declared.fault.SheetFault.{SheetFault}
 use Rattle.lines.specs.Entries.{meant, entry_of, Exactly}
-use Rattle.lines.proofs.Shapes.{tabs, text_number-reads, text_number-says}
+use Rattle.lines.proofs.Shapes.{tabs, text_number-reads, text_text_number-reads, text_text_number_number-reads, opening-reads, text_number-says, text_text_number-says, text_text_number_number-says, opening-says}
 
 -- what is written before the line feed
 abbrev bodied : ℕ → List (List ℕ) → List ℕ
@@ -49,14 +49,29 @@ num z s = number-free 10 z s (omega arith)
 fields_free : (x : Line) → Good x → AllFree (fields x)
 fields_free (rate k x) g = (g.0.1, (num x g.1, tt))
 fields_free (holiday k x) g = (g.0.1, (num x g.1, tt))
+fields_free (opening c n b l s p) g = (g.0.1, (num n g.1, (g.2.1, (num l g.3, (num s g.4, (g.5.1, tt))))))
+fields_free (limits c k x y) g = (g.0.1, (g.1.1, (num x g.2, (num y g.3, tt))))
+fields_free (margin c k x y) g = (g.0.1, (g.1.1, (num x g.2, (num y g.3, tt))))
+fields_free (deposit c k x) g = (g.0.1, (g.1.1, (num x g.2, tt)))
+fields_free (settlement c k x) g = (g.0.1, (g.1.1, (num x g.2, tt)))
 
 letter-free : (x : Line) → eqb (letter x) 10 ≡ false
 letter-free (rate k x) = refl
 letter-free (holiday k x) = refl
+letter-free (opening c n b l s p) = refl
+letter-free (limits c k x y) = refl
+letter-free (margin c k x y) = refl
+letter-free (deposit c k x) = refl
+letter-free (settlement c k x) = refl
 
 good-reads : (x : Line) → Good x → lettered (bodied (letter x) (fields x)) ≡ Some x
 good-reads (rate k x) g = rw (text_number-reads k x g.0.0 g.1)
 good-reads (holiday k x) g = rw (text_number-reads k x g.0.0 g.1)
+good-reads (opening c n b l s p) g = opening-reads c b p n l s g.0.0 g.2.0 g.5.0 g.1 g.3 g.4
+good-reads (limits c k x y) g = rw (text_text_number_number-reads c k x y g.0.0 g.1.0 g.2 g.3)
+good-reads (margin c k x y) g = rw (text_text_number_number-reads c k x y g.0.0 g.1.0 g.2 g.3)
+good-reads (deposit c k x) g = rw (text_text_number-reads c k x g.0.0 g.1.0 g.2)
+good-reads (settlement c k x) g = rw (text_text_number-reads c k x g.0.0 g.1.0 g.2)
 
 pub form-reads : (bytes : List ℕ) (x : Line) → Form bytes x → parsed bytes ≡ Some x
 form-reads bytes x f =
@@ -81,6 +96,25 @@ text_number-line make l t x said free e =
     let s = text_number-says t p.0 free p.1 in
     subst (Said l t) (some_same p.2) (said _ _ (s.0, s.1) (ap (λ u. l ∷ 9 ∷ u) (sym s.2)))
 
+-- of two texts and a number
+text_text_number-line : (make : List ℕ → List ℕ → ℤ → Line) (l : ℕ) (t : List ℕ) (x : Line) → ((c k : List ℕ) (z : ℤ) → Word c × Word k × Short z → bodied l (c ∷ k ∷ signed_decimal z ∷ []) ≡ l ∷ 9 ∷ t → Said l t (make c k z)) → Free 10 t → of_text_text_number make t ≡ Some x → Said l t x
+text_text_number-line make l t x said free e =
+    let p = before-some (text_text_number t) _ x e in
+    let s = text_text_number-says t p.0 free p.1 in
+    subst (Said l t) (some_same p.2) (said _ _ _ (s.0, s.1, s.2) (ap (λ u. l ∷ 9 ∷ u) (sym s.3)))
+
+-- of two texts and two numbers
+text_text_number_number-line : (make : List ℕ → List ℕ → ℤ → ℤ → Line) (l : ℕ) (t : List ℕ) (x : Line) → ((c k : List ℕ) (y z : ℤ) → Word c × Word k × Short y × Short z → bodied l (c ∷ k ∷ signed_decimal y ∷ signed_decimal z ∷ []) ≡ l ∷ 9 ∷ t → Said l t (make c k y z)) → Free 10 t → of_text_text_number_number make t ≡ Some x → Said l t x
+text_text_number_number-line make l t x said free e =
+    let p = before-some (text_text_number_number t) _ x e in
+    let s = text_text_number_number-says t p.0 free p.1 in
+    subst (Said l t) (some_same p.2) (said _ _ _ _ (s.0, s.1, s.2, s.3) (ap (λ u. l ∷ 9 ∷ u) (sym s.4)))
+
+opening-line : (t : List ℕ) (x : Line) → Free 10 t → opening_of t ≡ Some x → Said 65 t x
+opening-line t x free e =
+    let s = opening-says t x free e in
+    subst (Said 65 t) s.is (record { good = s.good; text = ap (λ u. 65 ∷ 9 ∷ u) (sym s.text) })
+
 -- one test on the letter after another
 at-letter : (l m : ℕ) (t : List ℕ) (x : Line) (a b : Option Line) → cond (eqb l m) a b ≡ Some x → (a ≡ Some x → Said m t x) → (b ≡ Some x → Said l t x) → Said l t x
 at-letter l m t x a b e here there = go (eqb l m) refl e
@@ -93,7 +127,12 @@ fielded-says : (l : ℕ) (t : List ℕ) (x : Line) → Free 10 t → fielded l t
 fielded-says l t x free e =
     at-letter l 82 t x _ _ e (text_number-line rate 82 t x (λ k z g e. record { good = g; text = e }) free)
     (λ e. at-letter l 72 t x _ _ e (text_number-line holiday 72 t x (λ k z g e. record { good = g; text = e }) free)
-    (λ e. let z : ◌≡◌ {A = ℕ} 0 1 = cc in absurd (omega arith)))
+    (λ e. at-letter l 65 t x _ _ e (opening-line t x free)
+    (λ e. at-letter l 76 t x _ _ e (text_text_number_number-line limits 76 t x (λ c k y z g e. record { good = g; text = e }) free)
+    (λ e. at-letter l 77 t x _ _ e (text_text_number_number-line margin 77 t x (λ c k y z g e. record { good = g; text = e }) free)
+    (λ e. at-letter l 68 t x _ _ e (text_text_number-line deposit 68 t x (λ c k z g e. record { good = g; text = e }) free)
+    (λ e. at-letter l 83 t x _ _ e (text_text_number-line settlement 83 t x (λ c k z g e. record { good = g; text = e }) free)
+    (λ e. let z : ◌≡◌ {A = ℕ} 0 1 = cc in absurd (omega arith))))))))
 
 lettered-says : (b : List ℕ) (x : Line) → Free 10 b → lettered b ≡ Some x → Body b x
 lettered-says [] x free e = let z : ◌≡◌ {A = ℕ} 0 1 = cc in absurd (omega arith)
@@ -122,6 +161,6 @@ form-says bytes x e =
       text = bodied-is (letter x) (fields x) ∙ ap (λ b. b ++ (10 ∷ [])) s.text ∙ sym whole;
     }
 
-pub exactly : (bytes : List ℕ) (r : Result Entry SheetFault) → entry_of r ≡ parsed bytes → Exactly bytes r
+pub exactly : (bytes : List ℕ) (r : Result Order SheetFault) → entry_of r ≡ parsed bytes → Exactly bytes r
 exactly bytes (Ok e) is = form-says bytes (meant e) (sym is)
 exactly bytes (Err f) is = λ x h. let p = form-reads bytes x h in let z : ◌≡◌ {A = ℕ} 0 1 = cc in omega arith

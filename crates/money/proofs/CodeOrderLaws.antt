@@ -1,6 +1,6 @@
 -- What the order of codes says of their bytes.
 use Rattle.std.proofs.Common.{◌≡◌, ℕ, Bool, true, false, cond, ◌&&◌, eqb, ltb, List, [], ◌∷◌, length, Ordering, Less, Equal, Greater, refl, ap, ◌∙◌, arith}
-use Rattle.std.specs.Cmp.{unsigned_tied}
+use Rattle.std.specs.Cmp.{IsTotalOrder, nat_cmp_total, on_total, then_total, unsigned_tied}
 use Rattle.std.specs.Cmp.Lexicographic.{slice_cmp}
 use Rattle.std.specs.Ordering.{is_eq, is_lt, ordering_then, nat_cmp}
 use Rattle.std.specs.Str.{bytes_eq}
@@ -57,3 +57,9 @@ tied-same x y = ap is_eq (cmp-lex x y) ∙ tied-bytes (bytes_of x) (bytes_of y)
 -- and puts one below another just where the first byte that differs does
 pub less-below : (x y : Code) → is_lt (code_order x y) ≡ is_below (bytes_of x) (bytes_of y)
 less-below x y = ap is_lt (cmp-lex x y) ∙ less-bytes (bytes_of x) (bytes_of y) refl
+
+-- and it is total, as that of each byte is
+pub code_total : IsTotalOrder code_order
+code_total =
+    then_total (on_total (λ (c : Code). c.0) nat_cmp_total) (then_total (on_total (λ (c : Code). c.1) nat_cmp_total) (then_total (on_total (λ (c : Code). c.2) nat_cmp_total) (then_total (on_total (λ (c : Code). c.3) nat_cmp_total)
+    (then_total (on_total (λ (c : Code). c.4) nat_cmp_total) (then_total (on_total (λ (c : Code). c.5) nat_cmp_total) (then_total (on_total (λ (c : Code). c.6) nat_cmp_total) (on_total (λ (c : Code). c.7) nat_cmp_total)))))))

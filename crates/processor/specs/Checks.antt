@@ -2,7 +2,7 @@
 use Rattle.std.specs.Prelude.{ℕ, List, Some, None, Option}
 use Rattle.money.specs.Refusals.{Told}
 use Rattle.text.specs.Rows.{rows}
-use Rattle.lines.specs.Admissions.{barred}
+use Rattle.records.specs.Admissions.{barred}
 use Rattle.processor.specs.Prints.{shown_refusal}
 use Rattle.processor.specs.Sheets.{sheet_of, printed_by}
 

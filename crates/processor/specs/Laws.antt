@@ -2,8 +2,8 @@
 use Rattle.std.specs.Prelude.{◌≡◌, ℕ, cond, List, [], ◌∷◌, is_some}
 use Rattle.valuation.specs.Valuations.{Valuation}
 use Rattle.history.specs.States.{State}
-use Rattle.lines.specs.declared.record.Record.{Record}
-use Rattle.lines.specs.Admissions.{Admits}
+use Rattle.records.specs.declared.record.Record.{Record}
+use Rattle.records.specs.Admissions.{Admits}
 use Rattle.processor.specs.Performances.{answer, after}
 
 -- the book after some lines

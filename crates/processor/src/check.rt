@@ -3,7 +3,7 @@ ghost use Rattle.std.specs.Prelude.{◌≡◌, ◌++◌, IfOk, string_bytes, OnO
 ghost use Rattle.processor.specs.Checks.{noted, checked};
 
 use crate::print::{print_refusal, sheet_of};
-use lines::record::read_line;
+use records::admission::read_line;
 use std::alloc::{AllocError, Global};
 use std::fmt::Write;
 use text::row::Lines;

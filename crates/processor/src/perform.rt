@@ -1,23 +1,18 @@
 //! Sheets performed on a book.
 ghost use Rattle.std.specs.Prelude.{◌≡◌, ◌++◌, IfOk, string_bytes, OnOk};
-ghost use Rattle.request.specs.Faults.{told as told_by_book};
-ghost use Rattle.history.specs.Steps.{refused, step};
 ghost use Rattle.history.specs.States.{new_state};
-ghost use Rattle.lines.specs.Entries.{meant};
 ghost use Rattle.lines.specs.Faults.{told};
 ghost use Rattle.money.specs.Refusals.{refusal_of};
 ghost use Rattle.processor.specs.Laws.{SheetLaw};
-ghost use Rattle.processor.specs.Performances.{call_of, answer, after, printed, Performed, transcribed};
+ghost use Rattle.processor.specs.Performances.{answer, after, printed, Performed, transcribed};
 ghost use Rattle.processor.specs.Processors.{state_of};
 ghost use Rattle.processor.specs.Sheets.{sheet_of};
 ghost use Rattle.text.specs.Rows.{rows};
 
 use crate::print::{print_refusal, sheet_of};
 use book::book::Book;
-use lines::entry::Entry;
 use lines::fault::SheetFault;
 use lines::form::form;
-use request::fault::BookFault;
 use std::alloc::{AllocError, Global};
 use text::row::Lines;
 use valuation::valuation::Valuation;
@@ -31,35 +26,28 @@ pub struct Processor<V> {
     book: Book<V>,
 }
 
-impl<V: Valuation> Processor<V> {
+impl<V: Drop> Processor<V> {
     /// A processor with a new book under the valuation.
-    pub fn new(valuation: V) -> Self
-        ensures { state_of result ≡ new_state 1 }
+    pub fn new(heap: Global, valuation: V) -> Result<Self, AllocError>
+        ensures { IfOk result (λ p. state_of p ≡ new_state 1) }
     {
-        Processor {
-            book: Book::new(BOOK, valuation),
-        }
+        Ok(Processor {
+            book: Book::new(heap, BOOK, valuation)?,
+        })
     }
+}
 
+impl<V: Valuation> Processor<V> {
     /// Performs one line, which holds its line feed. A refused line leaves the book as it was.
+    #[tactic(auto, using(crate::proofs::Ordered::ordered_meant))]
     pub fn perform(&mut self, line: &[u8]) -> Result<(), SheetFault>
         ensures answer { refusal_of told result ≡ answer V.meaning (state_of self.old) line.now }
         ensures after { state_of self.new ≡ after V.meaning (state_of self.old) line.now }
         ensures admitted { Performed line.now result }
     {
-        let entry = form(line)?;
-        self.enter(entry)?;
+        let order = form(line)?;
+        self.book.perform(order)?;
         Ok(())
-    }
-
-    fn enter(&mut self, entry: Entry<'_>) -> Result<(), BookFault>
-        ensures answer { refusal_of told_by_book result ≡ refused V.meaning (state_of self.old) (call_of (meant entry.entry)) }
-        ensures after { state_of self.new ≡ step V.meaning (state_of self.old) (call_of (meant entry.entry)) }
-    {
-        match entry {
-            Entry::Rate { currency, rate } => self.book.set_rate(currency, rate),
-            Entry::Holiday { currency, flag } => self.book.set_holiday(currency, flag),
-        }
     }
 
     // Performs one line, and prints its refusal if it has one.
@@ -84,7 +72,7 @@ pub fn transcript<V: Valuation + Drop>(
     ensures text { IfOk result (λ t. string_bytes t ≡ transcribed V.meaning input.now) }
 {
     let mut out = String::new(heap);
-    let mut processor = Processor::new(valuation);
+    let mut processor = Processor::new(heap, valuation)?;
     for (at, line) in Lines::of(sheet_of(input)).enumerate() {
         processor.tell(at + 1, line, &mut out)?;
     }

@@ -3,4 +3,5 @@
 
 pub mod fault;
 pub mod opening;
+pub mod order;
 pub mod subject;

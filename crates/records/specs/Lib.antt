@@ -1,0 +1,3 @@
+pub mod Records
+pub mod Endings
+pub mod Admissions
