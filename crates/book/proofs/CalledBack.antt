@@ -44,11 +44,6 @@ joined s code currency xs ys =
     ∷ xs)
     ys
 
--- figures that are not refused passed their test
-pub in-range : (code : Option Code) (unit : Currency) (b : Bool) → Ok tt ≡ range_answer b code unit → b ≡ true
-in-range code unit true e = refl
-in-range code unit false e = let z : ◌≡◌ {A = ℕ} 0 1 = cc in absurd (omega arith)
-
 module _ (s : State) (code currency : List ℕ) (at : ℕ) (unit : Currency) (l : Located s code currency at unit) (amount : ℤ) where
   abbrev checks : Option Told
   checks = account_faults s code currency (callback_checks s code currency amount)

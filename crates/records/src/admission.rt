@@ -11,7 +11,7 @@ ghost use Rattle.request.specs.Faults.{told as told_by_book};
 ghost use Rattle.std.specs.Result.{result_ok};
 
 use crate::record::Record;
-use account::check::{are_figures, check_rate, expect, read_status};
+use account::check::{check, check_figures, check_rate, read_status};
 use lines::fault::SheetFault;
 use lines::form::form;
 use money::code::Code;
@@ -77,7 +77,7 @@ fn limits_record(code: &[u8], currency: &[u8], limit: i64, excess: i64) -> Resul
     ensures value { result_ok result ≡ record_of (limits_line code.now currency.now limit excess) }
 {
     let (code, currency) = names(code, currency)?;
-    expect(are_figures(limit, excess), Some(code), currency)?;
+    check_figures(Some(code), currency, limit, excess)?;
     Ok(Record::Limits {
         code,
         currency,
@@ -97,7 +97,7 @@ fn margin_record(
     ensures value { result_ok result ≡ record_of (margin_line code.now currency.now requirement non_cash) }
 {
     let (code, currency) = names(code, currency)?;
-    expect(are_figures(requirement, non_cash), Some(code), currency)?;
+    check_figures(Some(code), currency, requirement, non_cash)?;
     Ok(Record::Margin {
         code,
         currency,
@@ -111,7 +111,7 @@ fn deposit_record(code: &[u8], currency: &[u8], amount: i64) -> Result<Record, B
     ensures value { result_ok result ≡ record_of (deposit_line code.now currency.now amount) }
 {
     let (code, currency) = names(code, currency)?;
-    expect(PAYMENT.holds(amount), Some(code), currency)?;
+    check(PAYMENT, amount, Some(code), currency)?;
     Ok(Record::Deposit {
         code,
         currency,
@@ -124,7 +124,7 @@ fn settlement_record(code: &[u8], currency: &[u8], amount: i64) -> Result<Record
     ensures value { result_ok result ≡ record_of (settlement_line code.now currency.now amount) }
 {
     let (code, currency) = names(code, currency)?;
-    expect(SETTLEMENT.holds(amount), Some(code), currency)?;
+    check(SETTLEMENT, amount, Some(code), currency)?;
     Ok(Record::Settlement {
         code,
         currency,

@@ -11,7 +11,7 @@ ghost use Rattle.request.specs.Faults.{told};
 
 use super::Book;
 use account::booking::{Booking, Callback};
-use account::check::expect;
+use account::check::check;
 use determine::worth::standing;
 use money::cause::BookCause;
 use money::currency::Currency;
@@ -52,7 +52,7 @@ impl<V: Valuation> Book<V> {
     {
         let subject = Subject::read(code, currency);
         let (at, currency) = self.locate(code, currency)?;
-        expect(PAYMENT.holds(amount), subject.code, currency)?;
+        check(PAYMENT, amount, subject.code, currency)?;
         let market = self.market_for(subject)?;
         if self.is_stopped(at) {
             return Err(subject.fault(BookCause::Stopped));

@@ -15,7 +15,7 @@ use Rattle.book.specs.Books.{meaning}
 use Rattle.book.specs.Callbacks.{callback_checks, Grantable}
 use Rattle.book.proofs.Asked.{row_lies}
 use Rattle.book.proofs.Booked.{refused-first}
-use Rattle.book.proofs.CalledBack.{in-range, lacks-rate, is-stopped, not_stopped}
+use Rattle.book.proofs.CalledBack.{lacks-rate, is-stopped, not_stopped}
 use Rattle.book.proofs.Marketed.{lack}
 use Rattle.book.proofs.Opened.{faulty}
 use Rattle.book.proofs.Rooms.{accounts-length, rows-length}
@@ -40,7 +40,7 @@ returns-in_err-market g c =
     let currency = c.args.currency.now in
     let amount_fits : SFits w64 c.args.amount = search rules in
     let amount = to_z-of_z w64 c.args.amount amount_fits in
-    let inside : within payment_range c.args.amount ≡ true = ap (within payment_range) (sym amount) ∙ sym c.holds.ensures ∙ in-range c.read-subject.result.code c.in_ok-at.currency c.holds.result c.in_ok-expect.ensures in
+    let inside : within payment_range c.args.amount ≡ true = ap (within payment_range) (sym amount) ∙ c.in_ok-check.ensures.ok in
     let p = err_from_is_err_and c.from_residual-in_err-market.result c.from_residual-in_err-market.ensures.1 in
     let lacking : Some (told c.in_err-market.field-0.0) ≡ lack (code_of code) (missing_rate s) = c.in_err-market.ensures.answer ∙ ap (λ (subject : Subject). lack subject.code (missing_rate s)) c.read-subject.ensures in
     let e = lacks-rate s code currency c.in_ok-at.at c.in_ok-at.currency c.in_ok-at.ensures.place c.args.amount inside (told c.in_err-market.field-0.0) lacking in
@@ -59,7 +59,7 @@ returns-then-is_stopped g c =
     let place = c.in_ok-at.ensures.place in
     let amount_fits : SFits w64 c.args.amount = search rules in
     let amount = to_z-of_z w64 c.args.amount amount_fits in
-    let inside : within payment_range c.args.amount ≡ true = ap (within payment_range) (sym amount) ∙ sym c.holds.ensures ∙ in-range c.read-subject.result.code c.in_ok-at.currency c.holds.result c.in_ok-expect.ensures in
+    let inside : within payment_range c.args.amount ≡ true = ap (within payment_range) (sym amount) ∙ c.in_ok-check.ensures.ok in
     let rated = c.in_ok-market.ensures.answer ∙ ap (λ (subject : Subject). lack subject.code (missing_rate s)) c.read-subject.ensures in
     let stop = c.if-is_stopped.ensures place.held.lies.account ∙ ap (λ a. is_stopped s (Some a)) (place.held.lies.stands place.held.lies.account) in
     let e = is-stopped s code currency c.in_ok-at.at c.in_ok-at.currency place c.args.amount inside rated stop in
@@ -80,7 +80,7 @@ returns g c =
     let unit = c.in_ok-at.currency in
     let amount_fits : SFits w64 c.args.amount = search rules in
     let amount = to_z-of_z w64 c.args.amount amount_fits in
-    let inside : within payment_range c.args.amount ≡ true = ap (within payment_range) (sym amount) ∙ sym c.holds.ensures ∙ in-range c.read-subject.result.code c.in_ok-at.currency c.holds.result c.in_ok-expect.ensures in
+    let inside : within payment_range c.args.amount ≡ true = ap (within payment_range) (sym amount) ∙ c.in_ok-check.ensures.ok in
     let rated = c.in_ok-market.ensures.answer ∙ ap (λ (subject : Subject). lack subject.code (missing_rate s)) c.read-subject.ensures in
     let stop = c.if-is_stopped.ensures place.held.lies.account ∙ ap (λ a. is_stopped s (Some a)) (place.held.lies.stands place.held.lies.account) in
     let lt : c.in_ok-at.at < length (vec_items b.accounts) = omega (arith, place.held.lies.within, accounts-length b, rows-length b, b.accounts.ok.0) in
