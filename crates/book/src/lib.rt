@@ -10,18 +10,47 @@ mod tests {
     use crate::book::Book;
     use crate::fault::BookFault;
     use crate::order::{Opening, Order};
+    use account::account::NO_FIGURES;
     use std::alloc::{AllocError, Global};
     use std::test::Fail;
     use valuation::flat_charge::FlatCharge;
 
-    const OPENING: Opening<'_> = Opening {
-        code: b"AAAA0001",
-        number: 7,
-        base: b"GBP",
-        level: 1,
-        setting: 1,
-        priority: b"GBPDKKEURNOKSEKUSD",
-    };
+    const CODE: &[u8] = b"AAAA0001";
+
+    const POUNDS: &[u8] = b"GBP";
+
+    const ORDERS: [Order<'_>; 5] = [
+        Order::Opening(Opening {
+            code: CODE,
+            number: 7,
+            base: POUNDS,
+            level: 1,
+            setting: 1,
+            priority: b"GBPDKKEURNOKSEKUSD",
+        }),
+        Order::Deposit {
+            code: CODE,
+            currency: POUNDS,
+            amount: 500_000,
+        },
+        Order::Settlement {
+            code: CODE,
+            currency: POUNDS,
+            amount: -30_000,
+        },
+        Order::Limits {
+            code: CODE,
+            currency: POUNDS,
+            limit: 100_000,
+            excess: 5,
+        },
+        Order::Margin {
+            code: CODE,
+            currency: POUNDS,
+            requirement: 70_000,
+            non_cash: 20_000,
+        },
+    ];
 
     // The price of one unit of each currency, in ten-thousandths.
     const RATES: [(&[u8], i64); 6] = [
@@ -44,106 +73,77 @@ mod tests {
         }
     }
 
-    #[test]
-    fn accounts_are_opened_and_booked_on(rt: HostRuntime) -> Result<(), Fail> {
-        let heap = rt.alloc();
+    // A book with one account, which holds some figures in pounds.
+    fn opened(heap: Global) -> Result<Book<FlatCharge>, AllocError> {
         let mut book = Book::new(heap, 1, FlatCharge)?;
-        assert_eq!(rt; book.account_count(), 0);
-        assert_eq!(rt; told(heap, book.open_account(OPENING))?.as_str(), "");
-        assert_eq!(rt;
-            told(heap, book.open_account(OPENING))?.as_str(),
-            "book 5 AAAA0001 GBP"
-        );
-        assert_eq!(rt; book.account_count(), 1);
-        assert!(rt; book.is_held(b"AAAA0001"), "opened");
-        assert!(rt; !book.is_held(b"AAAA0002"), "not opened");
-        assert!(rt; !book.is_held(b"aaaa0001"), "no code");
-        assert_eq!(rt;
-            told(heap, book.deposit(b"AAAA0001", b"GBP", 500_000))?.as_str(),
-            ""
-        );
-        assert_eq!(rt;
-            told(heap, book.settle(b"AAAA0001", b"GBP", -30_000))?.as_str(),
-            ""
-        );
-        assert_eq!(rt;
-            told(heap, book.set_limits(b"AAAA0001", b"GBP", 100_000, 5))?.as_str(),
-            ""
-        );
-        assert_eq!(rt;
-            told(heap, book.set_margin(b"AAAA0001", b"GBP", 70_000, 20_000))?.as_str(),
-            ""
-        );
-        match book.figures(b"AAAA0001", b"GBP") {
-            Ok(figures) => {
-                assert_eq!(rt; figures.cash, 500_000);
-                assert_eq!(rt; figures.limit, 100_000);
-                assert_eq!(rt; figures.excess, 5);
-                assert_eq!(rt; figures.requirement, 70_000);
-                assert_eq!(rt; figures.non_cash, 20_000);
-                assert_eq!(rt; figures.settlement, -30_000);
-            }
-            Err(fault) => assert_eq!(rt; told::<()>(heap, Err(fault))?.as_str(), "", "held"),
+        for order in ORDERS {
+            let _ = book.perform(order);
         }
-        assert_eq!(rt;
-            told(heap, book.figures(b"AAAA0001", b"CHF"))?.as_str(),
-            "book 7 AAAA0001 -"
-        );
-        assert_eq!(rt;
-            told(heap, book.figures(b"AAAA0002", b"CHF"))?.as_str(),
-            "book 6 AAAA0002 -"
-        );
-        Ok(())
+        Ok(book)
     }
 
     #[test]
-    fn cash_is_called_back_up_to_the_ceilings(rt: HostRuntime) -> Result<(), Fail> {
-        let heap = rt.alloc();
-        let mut book = Book::new(heap, 1, FlatCharge)?;
-        assert_eq!(rt; told(heap, book.open_account(OPENING))?.as_str(), "");
-        assert_eq!(rt;
-            told(heap, book.deposit(b"AAAA0001", b"GBP", 500_000))?.as_str(),
-            ""
-        );
-        assert_eq!(rt;
-            told(heap, book.set_limits(b"AAAA0001", b"GBP", 100_000, 0))?.as_str(),
-            ""
-        );
-        assert_eq!(rt;
-            told(heap, book.set_margin(b"AAAA0001", b"GBP", 70_000, 20_000))?.as_str(),
-            ""
-        );
-        assert_eq!(rt;
-            told(heap, book.standing(b"AAAA0001"))?.as_str(),
-            "book 13 AAAA0001 GBP"
-        );
-        assert_eq!(rt;
-            told(heap, book.call_back(b"AAAA0001", b"SEK", 1))?.as_str(),
-            "book 13 AAAA0001 GBP"
-        );
-        assert_eq!(rt;
-            told(heap, book.call_back(b"AAAA0001", b"SEK", 0))?.as_str(),
-            "account 12 AAAA0001 SEK"
-        );
-        for (currency, rate) in RATES {
-            let order = Order::Rate { currency, rate };
-            assert_eq!(rt; told(heap, book.perform(order))?.as_str(), "");
+    fn figures_are_held(rt: HostRuntime) -> Result<(), Fail> {
+        let book = opened(rt.alloc())?;
+        assert_eq!(rt; book.account_count(), 1);
+        assert!(rt; book.is_held(CODE), "opened");
+        assert!(rt; !book.is_held(b"AAAA0002"), "not opened");
+        assert!(rt; !book.is_held(b"aaaa0001"), "no code");
+        let figures = book.figures(CODE, POUNDS).unwrap_or(NO_FIGURES);
+        assert_eq!(rt; figures.cash, 500_000);
+        assert_eq!(rt; figures.settlement, -30_000);
+        assert_eq!(rt; figures.limit, 100_000);
+        assert_eq!(rt; figures.excess, 5);
+        assert_eq!(rt; figures.requirement, 70_000);
+        assert_eq!(rt; figures.non_cash, 20_000);
+        Ok(())
+    }
+
+    const QUESTIONS: [(&[u8], &[u8], &str); 4] = [
+        (CODE, b"SEK", ""),
+        (CODE, b"CHF", "book 7 AAAA0001 -"),
+        (b"AAAA0002", b"CHF", "book 6 AAAA0002 -"),
+        (b"aaaa0001", b"EUR", "book 4 - EUR"),
+    ];
+
+    #[test]
+    fn questions_are_refused(rt: HostRuntime) -> Result<(), Fail> {
+        let book = opened(rt.alloc())?;
+        for (code, currency, answer) in QUESTIONS {
+            let text = told(rt.alloc(), book.figures(code, currency))?;
+            assert_eq!(rt; text.as_str(), answer);
         }
-        // It stands at 500,000 - 100,000 + 20,000 - 70,000 hundredths, at 13 each.
-        assert_eq!(rt; book.standing(b"AAAA0001").unwrap_or(0), 45_500_000_000);
-        assert_eq!(rt;
-            told(heap, book.call_back(b"AAAA0001", b"GBP", 350_001))?.as_str(),
-            "account 17 AAAA0001 GBP"
-        );
-        assert_eq!(rt;
-            told(heap, book.call_back(b"AAAA0001", b"GBP", 350_000))?.as_str(),
-            ""
-        );
-        assert_eq!(rt; book.standing(b"AAAA0001").unwrap_or(1), 0);
-        assert_eq!(rt;
-            told(heap, book.call_back(b"AAAA0001", b"GBP", 1))?.as_str(),
-            "account 17 AAAA0001 GBP"
-        );
+        Ok(())
+    }
+
+    const UNRATED: [(&[u8], i64, &str); 2] = [
+        (b"SEK", 0, "account 12 AAAA0001 SEK"),
+        (b"SEK", 1, "book 13 AAAA0001 GBP"),
+    ];
+
+    // The account stands at 500,000 - 100,000 + 20,000 - 70,000 hundredths.
+    const RATED: [(&[u8], i64, &str); 3] = [
+        (POUNDS, 350_001, "account 17 AAAA0001 GBP"),
+        (POUNDS, 350_000, ""),
+        (POUNDS, 1, "account 17 AAAA0001 GBP"),
+    ];
+
+    #[test]
+    fn cash_is_called_back(rt: HostRuntime) -> Result<(), Fail> {
+        let mut book = opened(rt.alloc())?;
+        for (currency, amount, answer) in UNRATED {
+            let text = told(rt.alloc(), book.call_back(CODE, currency, amount))?;
+            assert_eq!(rt; text.as_str(), answer);
+        }
+        for (currency, rate) in RATES {
+            let _ = book.perform(Order::Rate { currency, rate });
+        }
+        assert_eq!(rt; book.standing(CODE).unwrap_or(0), 350_000 * 130_000);
+        for (currency, amount, answer) in RATED {
+            let text = told(rt.alloc(), book.call_back(CODE, currency, amount))?;
+            assert_eq!(rt; text.as_str(), answer);
+        }
+        assert_eq!(rt; book.standing(CODE).unwrap_or(1), 0);
         Ok(())
     }
 }
