@@ -14,10 +14,13 @@ mod tests {
     use std::alloc::{AllocError, Global};
     use std::test::Fail;
     use valuation::flat_charge::FlatCharge;
+    use valuation::lending_norms::LendingNorms;
 
     const CODE: &[u8] = b"AAAA0001";
 
     const POUNDS: &[u8] = b"GBP";
+
+    const PRIORITY: &[u8] = b"GBPDKKEURNOKSEKUSD";
 
     const ORDERS: [Order<'_>; 5] = [
         Order::Opening(Opening {
@@ -26,7 +29,7 @@ mod tests {
             base: POUNDS,
             level: 1,
             setting: 1,
-            priority: b"GBPDKKEURNOKSEKUSD",
+            priority: PRIORITY,
         }),
         Order::Deposit {
             code: CODE,
@@ -144,6 +147,31 @@ mod tests {
             assert_eq!(rt; text.as_str(), answer);
         }
         assert_eq!(rt; book.standing(CODE).unwrap_or(1), 0);
+        Ok(())
+    }
+
+    const BASES: [(&[u8], &[u8], &str); 4] = [
+        (b"DKK", b"GBP", "book 10 AAAA0001 DKK"),
+        (b"DKK", PRIORITY, "book 11 AAAA0001 DKK"),
+        (b"SEK", PRIORITY, "book 11 AAAA0001 SEK"),
+        (b"EUR", PRIORITY, ""),
+    ];
+
+    #[test]
+    fn bases_are_admitted(rt: HostRuntime) -> Result<(), Fail> {
+        let mut book = Book::new(rt.alloc(), 1, LendingNorms)?;
+        for (base, priority, answer) in BASES {
+            let opening = Opening {
+                code: CODE,
+                number: 7,
+                base,
+                level: 1,
+                setting: 1,
+                priority,
+            };
+            let text = told(rt.alloc(), book.open_account(opening))?;
+            assert_eq!(rt; text.as_str(), answer);
+        }
         Ok(())
     }
 }
