@@ -22,10 +22,10 @@ mod rates;
 mod standings;
 
 /// The most accounts that a book holds.
-pub const MOST_ACCOUNTS: usize = 64;
+const MOST_ACCOUNTS: usize = 64;
 
 /// The most optimization accounts that a book holds.
-pub const MOST_NUMBERS: usize = 16;
+const MOST_NUMBERS: usize = 16;
 
 /// A book of one member, with the valuation that it has for life.
 /// Room for all accounts is there from its making on.

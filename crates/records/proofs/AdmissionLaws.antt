@@ -12,8 +12,6 @@ use Rattle.money.specs.Ranges.{within, rate_range, figure_range, settlement_rang
 use Rattle.money.specs.Statuses.{flag_of, status_of}
 use Rattle.money.proofs.CodeReadings.{code-says, code_reads, code-eight}
 use Rattle.money.proofs.Readings.{currency-says, currency-reads, letters-three, status-reads, status-says}
-use Rattle.account.specs.declared.terms.DebitSetting.{DebitSetting}
-use Rattle.account.specs.declared.terms.Level.{Level}
 use Rattle.account.specs.Checks.{are_figures}
 use Rattle.account.specs.Priorities.{names_each_once, letters_all, priority_of}
 use Rattle.account.specs.Terms.{level_number, level_of, setting_number, setting_of}
@@ -24,6 +22,7 @@ use Rattle.text.proofs.CutLaws.{some_same}
 use Rattle.text.proofs.Spellings.{before-some, if-then}
 use Rattle.lines.specs.declared.fault.SheetFault.{SheetFault}
 use Rattle.records.specs.declared.record.Record.{Record}
+use Rattle.records.specs.declared.record.Opening.{Opening as OfOpening}
 use Rattle.records.specs.declared.record.Record.TheVariants.{Rate, Holiday, Opening, Limits, Margin, Deposit, Settlement}
 use Rattle.records.specs.Admissions.{admission, Admits, Exactly}
 use Rattle.lines.specs.Lines.{Line, rate, holiday, opening, limits, margin, deposit, settlement, ended, written, Form, parsed}
@@ -116,16 +115,16 @@ record-says (settlement c k x) r e =
 account-reads : (make : Code → Currency → Record) (code : Code) (c : Currency) (inside : Bool) → well_formed code && inside ≡ true → of_account make (shown_code code) (letters c) inside ≡ Some (make code c)
 account-reads make code c inside s = let p = and_parts (well_formed code) inside s in rw (code_reads code p.0, currency-reads c, p.1)
 
-opening-reads : (code : Code) (n : ℕ) (base : Currency) (level : Level) (setting : DebitSetting) (order : List Currency) → sound (Opening code n base level setting order) ≡ true → record_of (line_of (Opening code n base level setting order)) ≡ Some (Opening code n base level setting order)
-opening-reads code n base level setting order s =
-    let p = and_parts (well_formed code && within optimization_range (pos n)) (names_each_once order) s in
-    let q = and_parts (well_formed code) (within optimization_range (pos n)) p.0 in
-    rw (code_reads code q.0, currency-reads base, q.1, level-reads level, setting-reads setting, priority-reads order p.1)
+opening-reads : (o : OfOpening) → sound (Opening o) ≡ true → record_of (line_of (Opening o)) ≡ Some (Opening o)
+opening-reads o s =
+    let p = and_parts (well_formed o.code && within optimization_range (pos o.number)) (names_each_once o.priority) s in
+    let q = and_parts (well_formed o.code) (within optimization_range (pos o.number)) p.0 in
+    rw (code_reads o.code q.0, currency-reads o.base, q.1, level-reads o.level, setting-reads o.setting, priority-reads o.priority p.1)
 
 record-reads : (r : Record) → sound r ≡ true → record_of (line_of r) ≡ Some r
 record-reads (Rate c x) s = rw (currency-reads c, s)
 record-reads (Holiday c status) s = rw (currency-reads c, status-reads status)
-record-reads (Opening code n base level setting order) s = opening-reads code n base level setting order s
+record-reads (Opening o) s = opening-reads o s
 record-reads (Limits code c x y) s = account-reads (λ code c. Limits code c x y) code c (are_figures x y) s
 record-reads (Margin code c x y) s = account-reads (λ code c. Margin code c x y) code c (are_figures x y) s
 record-reads (Deposit code c x) s = account-reads (λ code c. Deposit code c x) code c (within payment_range x) s
@@ -161,17 +160,17 @@ figures-short l c k x y eight three f g = simp length-append (omega (arith, f.1,
 opening-short : (l : ℕ) (c b p : List ℕ) (n x y : ℤ) → length c ≡ 8 → length b ≡ 3 → length p ≤ 60 → Fielded n → Fielded x → Fielded y → length (l ∷ ended (c ∷ signed_decimal n ∷ b ∷ signed_decimal x ∷ signed_decimal y ∷ p ∷ [])) ≤ 129
 opening-short l c b p n x y eight three few f g h = simp length-append (omega (arith, f.1, g.1, h.1))
 
-opening-form : (code : Code) (n : ℕ) (base : Currency) (level : Level) (setting : DebitSetting) (order : List Currency) → sound (Opening code n base level setting order) ≡ true → Form (written (line_of (Opening code n base level setting order))) (line_of (Opening code n base level setting order))
-opening-form code n base level setting order s =
-    let p = and_parts (well_formed code && within optimization_range (pos n)) (names_each_once order) s in
-    let q = and_parts (well_formed code) (within optimization_range (pos n)) p.0 in
-    let number = figure-fielded optimization_range (pos n) (omega (arith, ints)) (omega (arith, ints)) q.1 in
-    let l = level-fielded level in
-    let d = setting-fielded setting in
-    let few : length (letters_all order) ≤ 60 = omega (arith, priority-long order p.1) in
+opening-form : (o : OfOpening) → sound (Opening o) ≡ true → Form (written (line_of (Opening o))) (line_of (Opening o))
+opening-form o s =
+    let p = and_parts (well_formed o.code && within optimization_range (pos o.number)) (names_each_once o.priority) s in
+    let q = and_parts (well_formed o.code) (within optimization_range (pos o.number)) p.0 in
+    let number = figure-fielded optimization_range (pos o.number) (omega (arith, ints)) (omega (arith, ints)) q.1 in
+    let l = level-fielded o.level in
+    let d = setting-fielded o.setting in
+    let few : length (letters_all o.priority) ≤ 60 = omega (arith, priority-long o.priority p.1) in
     record {
-      good = (code-word code q.0, number.0, letters-word base, l.0, d.0, order-word order);
-      long = opening-short 65 _ _ _ (pos n) _ _ (code-eight code q.0) (letters-three base) few number l d;
+      good = (code-word o.code q.0, number.0, letters-word o.base, l.0, d.0, order-word o.priority);
+      long = opening-short 65 _ _ _ (pos o.number) _ _ (code-eight o.code q.0) (letters-three o.base) few number l d;
       text = refl;
     }
 
@@ -182,7 +181,7 @@ sound-form (Rate c x) s =
 sound-form (Holiday c status) s =
     let f = flag-fielded status in
     record { good = (letters-word c, f.0); long = currency-short 72 _ (flag_of status) (letters-three c) f; text = refl }
-sound-form (Opening code n base level setting order) s = opening-form code n base level setting order s
+sound-form (Opening o) s = opening-form o s
 sound-form (Limits code c x y) s =
     let p = and_parts (well_formed code) (are_figures x y) s in
     let f = both-fielded x y p.1 in

@@ -18,13 +18,13 @@ use Rattle.account.specs.Checks.{are_figures}
 use Rattle.account.specs.Priorities.{priority_of}
 use Rattle.account.specs.Terms.{level_of, setting_of}
 use Rattle.request.specs.Causes.{first_told, is_none, outside, tells_of}
-use Rattle.request.specs.Openings.{terms_of}
+use Rattle.request.specs.Openings.{opens, terms_of}
 use Rattle.history.specs.Bookings.{limits_faults, margin_faults}
 use Rattle.history.proofs.Tests.{none_told, is-there, is_within, not-not}
 use Rattle.lines.specs.Lines.{Line, rate, holiday, opening, limits, margin, deposit, settlement}
 use Rattle.records.specs.declared.record.Record.{Record}
 use Rattle.records.specs.declared.record.Record.TheVariants.{Rate, Holiday, Opening, Limits, Margin, Deposit, Settlement}
-use Rattle.records.specs.Records.{name_faults, range_faults, barred_for, of_account, of_opening, record_of}
+use Rattle.records.specs.Records.{name_faults, range_faults, barred_for, of_account, opened_by, of_opening, record_of}
 use Rattle.records.proofs.FieldLaws.{not_both}
 
 rate-record : (o : Option Currency) (inside : Bool) (x : ℤ) (c : Currency) → o ≡ Some c → inside ≡ true → before o (λ c. cond inside (Some (Rate c x)) None) ≡ Some (Rate c x)
@@ -56,7 +56,7 @@ neither : (a b : Bool) → a || b ≡ false → (a ≡ false) × (b ≡ false)
 neither true b e = let z : ◌≡◌ {A = ℕ} 0 1 = cc in absurd (omega arith)
 neither false b e = (refl, e)
 
-with-terms : (o : Option Code) (n : ℤ) (b : Option Currency) (l s : ℤ) (p : List ℕ) (code : Code) (base : Currency) (level : Level) (setting : DebitSetting) (order : List Currency) → o ≡ Some code → b ≡ Some base → within optimization_range n ≡ true → level_of l ≡ Some level → setting_of s ≡ Some setting → priority_of p ≡ Some order → before o (λ c. before (terms_of n b l s p) (λ t. Some (Opening c t.number t.base t.level t.setting t.priority))) ≡ Some (Opening code (nat_abs n) base level setting order)
+with-terms : (o : Option Code) (n : ℤ) (b : Option Currency) (l s : ℤ) (p : List ℕ) (code : Code) (base : Currency) (level : Level) (setting : DebitSetting) (order : List Currency) → o ≡ Some code → b ≡ Some base → within optimization_range n ≡ true → level_of l ≡ Some level → setting_of s ≡ Some setting → priority_of p ≡ Some order → before o (λ c. before (terms_of n b l s p) (λ t. Some (Opening (opened_by c t)))) ≡ Some (Opening (opened_by code (opens (nat_abs n) base level setting order)))
 with-terms o n b l s p code base level setting order first second in' third fourth last = rw (first, second, in', third, fourth, last)
 
 opening-record : (c : List ℕ) (n : ℤ) (b : List ℕ) (l s : ℤ) (p : List ℕ) → barred_for (opening c n b l s p) ≡ None → (r : Record) × (of_opening c n b l s p ≡ Some r)
@@ -73,7 +73,7 @@ opening-record c n b l s p e =
     let level = is-there (level_of l) terms.0 in
     let setting = is-there (setting_of s) terms.1 in
     let order = is-there (priority_of p) e10.0 in (
-      Opening code.0 (nat_abs n) base.0 level.0 setting.0 order.0,
+      Opening (opened_by code.0 (opens (nat_abs n) base.0 level.0 setting.0 order.0)),
       with-terms (code_of c) n (currency_of b) l s p code.0 base.0 level.0 setting.0 order.0 code.1 base.1 in' level.1 setting.1 order.1,
     )
 

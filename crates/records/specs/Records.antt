@@ -18,9 +18,10 @@ use Rattle.account.specs.Terms.{level_number, setting_number}
 use Rattle.request.specs.declared.fault.BookFault.{BookFault}
 use Rattle.request.specs.declared.fault.BookFault.TheVariants.{Own}
 use Rattle.request.specs.Causes.{first_told, is_none, outside, tells_of}
-use Rattle.request.specs.Openings.{terms_faults, terms_of}
+use Rattle.request.specs.Openings.{Opened, terms_faults, terms_of}
 use Rattle.history.specs.Bookings.{rate_faults, holiday_faults, limits_faults, margin_faults}
 use Rattle.records.specs.declared.record.Record.{Record}
+use Rattle.records.specs.declared.record.Opening.{Opening as OfOpening}
 use Rattle.records.specs.declared.record.Record.TheVariants.{Rate, Holiday, Opening, Limits, Margin, Deposit, Settlement}
 use Rattle.lines.specs.Lines.{Line, rate, holiday, opening, limits, margin, deposit, settlement}
 
@@ -28,7 +29,7 @@ use Rattle.lines.specs.Lines.{Line, rate, holiday, opening, limits, margin, depo
 abbrev pub line_of : Record → Line
 line_of (Rate c x) = rate (letters c) x
 line_of (Holiday c status) = holiday (letters c) (flag_of status)
-line_of (Opening code n base level setting order) = opening (shown_code code) (pos n) (letters base) (level_number level) (setting_number setting) (letters_all order)
+line_of (Opening o) = opening (shown_code o.code) (pos o.number) (letters o.base) (level_number o.level) (setting_number o.setting) (letters_all o.priority)
 line_of (Limits code c x y) = limits (shown_code code) (letters c) x y
 line_of (Margin code c x y) = margin (shown_code code) (letters c) x y
 line_of (Deposit code c x) = deposit (shown_code code) (letters c) x
@@ -41,7 +42,7 @@ well_formed code = formed (bytes_of code)
 abbrev pub sound : Record → Bool
 sound (Rate c x) = within rate_range x
 sound (Holiday c status) = true
-sound (Opening code n base level setting order) = well_formed code && within optimization_range (pos n) && names_each_once order
+sound (Opening o) = well_formed o.code && within optimization_range (pos o.number) && names_each_once o.priority
 sound (Limits code c x y) = well_formed code && are_figures x y
 sound (Margin code c x y) = well_formed code && are_figures x y
 sound (Deposit code c x) = well_formed code && within payment_range x
@@ -84,10 +85,14 @@ names_by (Some code) (Some currency) = Ok (code, currency)
 abbrev pub of_account : (Code → Currency → Record) → List ℕ → List ℕ → Bool → Option Record
 of_account make code currency inside = before (code_of code) (λ c. before (currency_of currency) (λ k. cond inside (Some (make c k)) None))
 
+-- an opening under a code on these terms
+abbrev pub opened_by : Code → Opened → OfOpening
+opened_by code t = record { code = code; number = t.number; base = t.base; level = t.level; setting = t.setting; priority = t.priority }
+
 abbrev pub of_opening : List ℕ → ℤ → List ℕ → ℤ → ℤ → List ℕ → Option Record
 of_opening code number base level setting priority =
     before (code_of code) (λ c. before (terms_of number (currency_of base) level setting priority) (λ t.
-    Some (Opening c t.number t.base t.level t.setting t.priority)))
+    Some (Opening (opened_by c t))))
 
 -- the record of a line that nothing bars
 abbrev pub record_of : Line → Option Record

@@ -10,7 +10,7 @@ ghost use Rattle.records.specs.Records.{names_by, record_of, barred_for};
 ghost use Rattle.request.specs.Faults.{told as told_by_book};
 ghost use Rattle.std.specs.Result.{result_ok};
 
-use crate::record::Record;
+use crate::record::{self, Record};
 use account::check::{check, check_figures, check_rate, read_status};
 use lines::fault::SheetFault;
 use lines::form::form;
@@ -53,14 +53,14 @@ fn opening_record(opening: Opening<'_>) -> Result<Record, BookFault>
         opening.setting,
         opening.priority,
     )?;
-    Ok(Record::Opening {
+    Ok(Record::Opening(record::Opening {
         code,
         number: terms.number,
         base: terms.base,
         level: terms.level,
         setting: terms.setting,
         priority: terms.priority.order(),
-    })
+    }))
 }
 
 // The code and the currency that a line names.

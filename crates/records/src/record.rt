@@ -4,6 +4,7 @@ ghost use Rattle.lines.specs.Lines.{ended, written};
 ghost use Rattle.money.specs.Codes.{shown_code};
 ghost use Rattle.money.specs.Currencies.{letters};
 ghost use Rattle.records.specs.Records.{line_of};
+ghost use Rattle.records.specs.declared.record.Record.TheVariants.{Opening as OfOpening};
 ghost use Rattle.std.specs.Fmt.{WritesOnOk, signed_decimal};
 
 use crate::ending::Choices;
@@ -13,6 +14,19 @@ use money::currency::{COUNT, Currency};
 use money::status::Status;
 use std::alloc::{AllocError, Global};
 use std::fmt;
+
+/// The opening of an account.
+#[derive(Clone, Copy)]
+pub struct Opening {
+    pub code: Code,
+    /// The number of the optimization account.
+    pub number: u32,
+    /// The base currency.
+    pub base: Currency,
+    pub level: Level,
+    pub setting: DebitSetting,
+    pub priority: [Currency; COUNT],
+}
 
 /// What an admitted line says: each of its fields is what it should be.
 #[derive(Clone, Copy)]
@@ -25,14 +39,7 @@ pub enum Record {
         currency: Currency,
         status: Status,
     },
-    Opening {
-        code: Code,
-        number: u32,
-        base: Currency,
-        level: Level,
-        setting: DebitSetting,
-        priority: [Currency; COUNT],
-    },
+    Opening(Opening),
     Limits {
         code: Code,
         currency: Currency,
@@ -67,6 +74,26 @@ fn write_currency<W: fmt::Write>(
     ensures { WritesOnOk W.Write.write_str_gives f.old result (letter.now ++ ended (letters currency ∷ signed_decimal figure ∷ [])) f.new }
 {
     write!(f, "{letter}\t{currency}\t{figure}\n")
+}
+
+// The letter, and all that an opening fixes.
+fn write_opening<W: fmt::Write>(f: &mut fmt::Formatter<W>, opening: Opening) -> fmt::Result
+    ensures { WritesOnOk W.Write.write_str_gives f.old result (written (line_of (OfOpening opening))) f.new }
+{
+    let Opening {
+        code,
+        number,
+        base,
+        level,
+        setting,
+        priority,
+    } = opening;
+    let choices = Choices {
+        level,
+        setting,
+        priority,
+    };
+    write!(f, "A\t{code}\t{number}\t{base}\t{choices}")
 }
 
 // The letter, a code, a currency and a figure.
@@ -106,21 +133,7 @@ impl fmt::Display for Record {
             Record::Holiday { currency, status } => {
                 write_currency(f, "H", currency, i64::from(status))
             }
-            Record::Opening {
-                code,
-                number,
-                base,
-                level,
-                setting,
-                priority,
-            } => {
-                let choices = Choices {
-                    level,
-                    setting,
-                    priority,
-                };
-                write!(f, "A\t{code}\t{number}\t{base}\t{choices}")
-            }
+            Record::Opening(opening) => write_opening(f, opening),
             Record::Limits {
                 code,
                 currency,
