@@ -1,9 +1,8 @@
 -- What a callback is refused for, stage by stage, and what it leaves.
-use Rattle.std.proofs.Common.{◌≡◌, ℕ, Bool, true, false, cond, not, List, [], ◌∷◌, ◌++◌, get_or, ℤ, is_some, Some, None, Ok, Option, Result, sym, refl, ap, ◌∙◌, arith}
+use Rattle.std.proofs.Common.{◌≡◌, ℕ, Bool, true, false, cond, not, List, [], ◌∷◌, ◌++◌, get_or, ℤ, is_some, Some, None, Option, Result, sym, ap, ◌∙◌, arith}
 use Rattle.money.specs.declared.cause.AccountCause.TheVariants.{OutOfRange, PastCeiling}
 use Rattle.money.specs.declared.cause.BookCause.TheVariants.{RunOpen, CodeForm, CodeAbsent, CurrencyUnknown, Stopped}
 use Rattle.money.specs.declared.cause.Cause.TheVariants.{Book, Account}
-use Rattle.money.specs.declared.code.Code.{Code}
 use Rattle.money.specs.declared.currency.Currency.{Currency}
 use Rattle.money.specs.Codes.{code_of}
 use Rattle.money.specs.Currencies.{currency_of}
@@ -15,7 +14,6 @@ use Rattle.account.specs.Faults.{AccountFault}
 use Rattle.account.specs.Amounts.{is_worth_at_most, may_call_back}
 use Rattle.account.specs.Answers.{booking_answer, chosen}
 use Rattle.account.specs.Bookings.{booking_change, callback_booked, change_figures}
-use Rattle.account.specs.Checks.{range_answer}
 use Rattle.account.specs.Faults.{told}
 use Rattle.request.specs.Causes.{first_told, is_none, outside, tells_of}
 use Rattle.determination.specs.Standings.{standing}

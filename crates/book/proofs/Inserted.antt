@@ -90,9 +90,9 @@ number-kept n (o ∷ os) up e = by (eqb o.number n) refl (and_parts (list_all (�
 
 -- where the look-up says that they belong in a book
 module _ {V : Type 0} (b : Book V) where
-  pub account-fits : (account : Account) (code : Code) (slice : List Code) (at : ℕ) → code ≡ (state_of account).code → slice ≡ vec_items b.codes → at ≤ length slice → (T (ascending code_order slice) → InsertionPoint code_order slice code at) → account_with (meaning b) (state_of account).code ≡ None → AccountPut (vec_items b.accounts) (vec_items b.codes) account at
+  pub account-fits : (account : Account) (code : Code) (slice : List Code) (at : ℕ) → code ≡ (state_of account).code → slice ≡ vec_items b.codes → at ≤ length slice → (T (ascending code_order slice) → InsertionPoint code_order slice code at) → account_with (meaning b) (state_of account).code ≡ None → AccountPut (vec_items b.accounts.rows) (vec_items b.codes) account at
   account-fits account code slice at own is le point absent =
-      account-put (vec_items b.accounts) (vec_items b.codes) account at b.coded (omega (arith, le, ap length is))
+      account-put (vec_items b.accounts.rows) (vec_items b.codes) account at b.coded (omega (arith, le, ap length is))
       (subst (λ k. InsertionPoint code_order (vec_items b.codes) k at) own (subst (λ ks. InsertionPoint code_order ks code at) is (point (subst T (sym (ap (ascending code_order) is ∙ b.rising)) tt))))
       absent
 

@@ -7,12 +7,12 @@ use Rattle.book.specs.Books.{meaning}
 use Rattle.book.specs.Openings.{is_full_of_accounts, is_full_of_numbers}
 
 module _ {V : Type 0} (b : Book V) where
-  pub rows-length : vec_len b.accounts ≡ vec_len b.codes
+  pub rows-length : vec_len b.accounts.rows ≡ vec_len b.codes
   rows-length =
-      omega (arith, ap length b.coded, length-map (vec_items b.accounts) (λ a. (state_of a).code), b.accounts.ok.0, b.codes.ok.0)
+      omega (arith, ap length b.coded, length-map (vec_items b.accounts.rows) (λ a. (state_of a).code), b.accounts.rows.ok.0, b.codes.ok.0)
 
   pub accounts-length : length (meaning b).accounts ≡ vec_len b.codes
-  accounts-length = omega (arith, rows-length, length-map (vec_items b.accounts) state_of, b.accounts.ok.0)
+  accounts-length = omega (arith, rows-length, length-map (vec_items b.accounts.rows) state_of, b.accounts.rows.ok.0)
 
   pub optimizations-length : length (meaning b).optimizations ≡ vec_len b.numbers
   optimizations-length = omega (arith, ap length b.numbered, length-map (vec_items b.optimizations) (λ o. o.number), b.numbers.ok.0)

@@ -6,7 +6,7 @@ use Rattle.text.specs.Cuts.{cut_at, Free}
 use Rattle.text.specs.Numbers.{Short}
 use Rattle.text.proofs.CutLaws.{some_same, cut-says, cut-reads, free-joined}
 use Rattle.text.proofs.Spellings.{before-some, if-then, number-free}
-use Rattle.lines.specs.Lines.{Line, rate, holiday, opening, limits, margin, deposit, settlement, letter, fields, ended, written, Word, Good, Form, text_number, text_text_number, text_text_number_number, opening_of, of_text_number, of_text_text_number, of_text_text_number_number, fielded, lettered, body_of, parsed}
+use Rattle.lines.specs.Lines.{Line, rate, holiday, opening, limits, margin, deposit, settlement, letter, fields, ended, Word, Good, Form, text_number, text_text_number, text_text_number_number, opening_of, of_text_number, of_text_text_number, of_text_text_number_number, fielded, lettered, body_of, parsed}
 use Rattle.request.specs.declared.order.Order.{Order}
 use Rattle.lines.specs.declared.fault.SheetFault.{SheetFault}
 use Rattle.lines.specs.Entries.{meant, entry_of, Exactly}

@@ -90,11 +90,11 @@ impl<V> Book<V> {
         currency: Currency,
         booking: Booking,
     ) -> Result<(), AccountFault>
-        requires { at < vec_len self.old.accounts }
+        requires { at < vec_len self.old.accounts.rows }
         ensures answer { (d : AccountState) → result ≡ booking_answer (slice_index_or (meaning self.old).accounts at d) currency booking }
         ensures after { (d : AccountState) → meaning self.new ≡ chosen result (meaning self.old) (with_row (meaning self.old) at (change_figures (booking_change booking) currency (slice_index_or (meaning self.old).accounts at d))) }
         ensures valued { self.new.valuation ≡ self.old.valuation }
     {
-        self.accounts[at].book(currency, booking)
+        self.accounts.rows[at].book(currency, booking)
     }
 }

@@ -60,7 +60,7 @@ impl<V: Valuation> Book<V> {
         let callback = Callback {
             amount,
             rate: market.rate(currency),
-            standing: standing(&self.valuation, &market, &self.accounts[at]),
+            standing: standing(&self.valuation, &market, &self.accounts.rows[at]),
         };
         Ok(Granted {
             at,
@@ -73,10 +73,10 @@ impl<V: Valuation> Book<V> {
 impl<V> Book<V> {
     // Whether the optimization account of the account at a place is stopped.
     fn is_stopped(&self, at: usize) -> bool
-        requires { at < vec_len self.now.accounts }
+        requires { at < vec_len self.now.accounts.rows }
         ensures { (d : AccountState) → result ≡ is_stopped (meaning self.now) (Some (slice_index_or (meaning self.now).accounts at d)) }
     {
-        let number = self.accounts[at].optimization();
+        let number = self.accounts.rows[at].optimization();
         self.is_number_stopped(number)
     }
 

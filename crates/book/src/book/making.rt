@@ -3,7 +3,7 @@ ghost use Rattle.std.specs.Prelude.{◌≡◌, IfOk};
 ghost use Rattle.book.specs.Books.{meaning};
 ghost use Rattle.history.specs.States.{new_state};
 
-use super::{Book, MOST_ACCOUNTS, MOST_NUMBERS};
+use super::{Accounts, Book, MOST_ACCOUNTS, MOST_NUMBERS};
 use quotes::quotes::Quotes;
 use std::alloc::{AllocError, Global};
 
@@ -14,7 +14,7 @@ impl<V: Drop> Book<V> {
         ensures valued { IfOk result (λ b. b.valuation ≡ valuation) }
     {
         let codes = Vec::with_capacity(heap, MOST_ACCOUNTS)?;
-        let accounts = Vec::with_capacity(heap, MOST_ACCOUNTS)?;
+        let rows = Vec::with_capacity(heap, MOST_ACCOUNTS)?;
         let numbers = Vec::with_capacity(heap, MOST_NUMBERS)?;
         let optimizations = Vec::with_capacity(heap, MOST_NUMBERS)?;
         Ok(Book {
@@ -22,7 +22,7 @@ impl<V: Drop> Book<V> {
             valuation,
             quotes: Quotes::new(),
             codes,
-            accounts,
+            accounts: Accounts { rows },
             numbers,
             optimizations,
             running: None,

@@ -150,7 +150,7 @@ impl<V> Book<V> {
         let code = account.code();
         let at = insertion_point(self.codes.as_slice(), &code);
         insert_within(&mut self.codes, at, code);
-        insert_within(&mut self.accounts, at, account);
+        insert_within(&mut self.accounts.rows, at, account);
     }
 
     // Puts a new optimization number at its place; it is not stopped.

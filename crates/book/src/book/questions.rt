@@ -36,6 +36,6 @@ impl<V> Book<V> {
         let subject = Subject::read(code, currency);
         let at = self.held_at(subject)?;
         let currency = subject.known_currency()?;
-        Ok(self.accounts[at].figures(currency))
+        Ok(self.accounts.rows[at].figures(currency))
     }
 }

@@ -27,7 +27,7 @@ impl<V: Valuation> Book<V> {
         let subject = Subject::of_code(code);
         let at = self.held_at(subject)?;
         let market = self.market_for(subject)?;
-        Ok(standing(&self.valuation, &market, &self.accounts[at]))
+        Ok(standing(&self.valuation, &market, &self.accounts.rows[at]))
     }
 }
 

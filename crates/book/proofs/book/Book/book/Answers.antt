@@ -17,7 +17,7 @@ returns-in_err-at g c =
 
 pub book_at-requires : goal.book_at-requires
 book_at-requires g c =
-    omega (arith, c.in_ok-at.ensures.place.held.lies.within, length-map (vec_items c.args.self.now.accounts) state_of, c.args.self.now.accounts.ok.0)
+    omega (arith, c.in_ok-at.ensures.place.held.lies.within, length-map (vec_items c.args.self.now.accounts.rows) state_of, c.args.self.now.accounts.rows.ok.0)
 
 pub returns-in_err-book_at : goal.returns-in_err-book_at
 returns-in_err-book_at g c =

@@ -8,8 +8,8 @@ use Rattle.book.proofs.book.Book.book_at.Goals as goal
 pub invariant_of-self : goal.invariant_of-self
 invariant_of-self g c =
     let book = c.args.self.now in
-    let rows = vec_items book.accounts in
-    let lt : c.args.at < length rows = omega (arith, c.requires, book.accounts.ok.0) in
+    let rows = vec_items book.accounts.rows in
+    let lt : c.args.at < length rows = omega (arith, c.requires, book.accounts.rows.ok.0) in
     let codes = codes-stay rows c.args.at c.index_mut.result.now c.book.new.self lt c.index_mut.ensures.value (change_figures (booking_change c.args.booking) c.args.currency) (λ a. refl) c.book.result c.book.ensures.after in
     record {
       coded = codes ∙ book.coded;
@@ -27,8 +27,8 @@ invariant_of-self g c =
 pub returns : goal.returns
 returns g c =
     let book = c.args.self.now in
-    let rows = vec_items book.accounts in
-    let lt : c.args.at < length rows = omega (arith, c.requires, book.accounts.ok.0) in
+    let rows = vec_items book.accounts.rows in
+    let lt : c.args.at < length rows = omega (arith, c.requires, book.accounts.rows.ok.0) in
     record {
       answer = answer-is rows c.args.at c.index_mut.result.now c.book.new.self lt c.index_mut.ensures.value (λ a. booking_answer a c.args.currency c.args.booking) c.book.result c.book.ensures.answer;
       after = rows-after rows c.args.at c.index_mut.result.now c.book.new.self lt c.index_mut.ensures.value (change_figures (booking_change c.args.booking) c.args.currency) (meaning book) refl c.book.result c.book.ensures.after;

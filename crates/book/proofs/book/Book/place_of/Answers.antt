@@ -8,5 +8,5 @@ pub returns : goal.returns
 returns g c =
     let codes = vec_items c.args.self.now.codes in
     let up : T (ascending code_order codes) = subst T (sym c.args.self.now.rising) tt in
-    place-lies (vec_items c.args.self.now.accounts) codes c.args.code c.find.result c.args.self.now.coded
+    place-lies (vec_items c.args.self.now.accounts.rows) codes c.args.code c.find.result c.args.self.now.coded
     (simp c.as_slice.ensures.value at c.find.ensures.answer up)
