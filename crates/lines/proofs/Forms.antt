@@ -6,7 +6,7 @@ use Rattle.text.specs.Cuts.{cut_at, Free}
 use Rattle.text.specs.Numbers.{Short}
 use Rattle.text.proofs.CutLaws.{some_same, cut-says, cut-reads, free-joined}
 use Rattle.text.proofs.Spellings.{before-some, if-then, number-free}
-use Rattle.lines.specs.Lines.{Line, rate, holiday, opening, limits, margin, deposit, settlement, letter, fields, ended, Word, Good, Form, text_number, text_text_number, text_text_number_number, opening_of, of_text_number, of_text_text_number, of_text_text_number_number, fielded, lettered, body_of, parsed}
+use Rattle.lines.specs.Lines.{Line, rate, holiday, opening, limits, margin, deposit, settlement, callback, letter, fields, ended, Word, Good, Form, text_number, text_text_number, text_text_number_number, opening_of, of_text_number, of_text_text_number, of_text_text_number_number, fielded, lettered, body_of, parsed}
 use Rattle.request.specs.declared.order.Order.{Order}
 use Rattle.lines.specs.declared.fault.SheetFault.{SheetFault}
 use Rattle.lines.specs.Entries.{meant, entry_of, Exactly}
@@ -54,6 +54,7 @@ fields_free (limits c k x y) g = (g.0.1, (g.1.1, (num x g.2, (num y g.3, tt))))
 fields_free (margin c k x y) g = (g.0.1, (g.1.1, (num x g.2, (num y g.3, tt))))
 fields_free (deposit c k x) g = (g.0.1, (g.1.1, (num x g.2, tt)))
 fields_free (settlement c k x) g = (g.0.1, (g.1.1, (num x g.2, tt)))
+fields_free (callback c k x) g = (g.0.1, (g.1.1, (num x g.2, tt)))
 
 letter-free : (x : Line) → eqb (letter x) 10 ≡ false
 letter-free (rate k x) = refl
@@ -63,6 +64,7 @@ letter-free (limits c k x y) = refl
 letter-free (margin c k x y) = refl
 letter-free (deposit c k x) = refl
 letter-free (settlement c k x) = refl
+letter-free (callback c k x) = refl
 
 good-reads : (x : Line) → Good x → lettered (bodied (letter x) (fields x)) ≡ Some x
 good-reads (rate k x) g = rw (text_number-reads k x g.0.0 g.1)
@@ -72,6 +74,7 @@ good-reads (limits c k x y) g = rw (text_text_number_number-reads c k x y g.0.0 
 good-reads (margin c k x y) g = rw (text_text_number_number-reads c k x y g.0.0 g.1.0 g.2 g.3)
 good-reads (deposit c k x) g = rw (text_text_number-reads c k x g.0.0 g.1.0 g.2)
 good-reads (settlement c k x) g = rw (text_text_number-reads c k x g.0.0 g.1.0 g.2)
+good-reads (callback c k x) g = rw (text_text_number-reads c k x g.0.0 g.1.0 g.2)
 
 pub form-reads : (bytes : List ℕ) (x : Line) → Form bytes x → parsed bytes ≡ Some x
 form-reads bytes x f =
@@ -132,7 +135,8 @@ fielded-says l t x free e =
     (λ e. at-letter l 77 t x _ _ e (text_text_number_number-line margin 77 t x (λ c k y z g e. record { good = g; text = e }) free)
     (λ e. at-letter l 68 t x _ _ e (text_text_number-line deposit 68 t x (λ c k z g e. record { good = g; text = e }) free)
     (λ e. at-letter l 83 t x _ _ e (text_text_number-line settlement 83 t x (λ c k z g e. record { good = g; text = e }) free)
-    (λ e. let z : ◌≡◌ {A = ℕ} 0 1 = cc in absurd (omega arith))))))))
+    (λ e. at-letter l 66 t x _ _ e (text_text_number-line callback 66 t x (λ c k z g e. record { good = g; text = e }) free)
+    (λ e. let z : ◌≡◌ {A = ℕ} 0 1 = cc in absurd (omega arith)))))))))
 
 lettered-says : (b : List ℕ) (x : Line) → Free 10 b → lettered b ≡ Some x → Body b x
 lettered-says [] x free e = let z : ◌≡◌ {A = ℕ} 0 1 = cc in absurd (omega arith)

@@ -2,9 +2,9 @@
 use Rattle.std.specs.Prelude.{ℕ, List, ℤ, Some, None, Ok, Err, Option, Result}
 use Rattle.std.specs.Borrow.{Bor}
 use Rattle.request.specs.declared.order.Order.{Order}
-use Rattle.request.specs.declared.order.Order.TheVariants.{Rate, Holiday, Opening, Limits, Margin, Deposit, Settlement}
+use Rattle.request.specs.declared.order.Order.TheVariants.{Rate, Holiday, Opening, Limits, Margin, Deposit, Settlement, Callback}
 use Rattle.lines.specs.declared.fault.SheetFault.{SheetFault}
-use Rattle.lines.specs.Lines.{Line, rate, holiday, opening, limits, margin, deposit, settlement, Form}
+use Rattle.lines.specs.Lines.{Line, rate, holiday, opening, limits, margin, deposit, settlement, callback, Form}
 
 abbrev pub meant : Order → Line
 meant (Rate k x) = rate k.now x
@@ -14,6 +14,7 @@ meant (Limits c k x y) = limits c.now k.now x y
 meant (Margin c k x y) = margin c.now k.now x y
 meant (Deposit c k x) = deposit c.now k.now x
 meant (Settlement c k x) = settlement c.now k.now x
+meant (Callback c k x) = callback c.now k.now x
 
 -- FIELDS AS THEY ARE CUT
 

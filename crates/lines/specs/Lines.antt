@@ -16,10 +16,11 @@ pub data Line : Type 0 where
   margin : List ℕ → List ℕ → ℤ → ℤ → Line
   deposit : List ℕ → List ℕ → ℤ → Line
   settlement : List ℕ → List ℕ → ℤ → Line
+  callback : List ℕ → List ℕ → ℤ → Line
 
 -- HOW A LINE IS WRITTEN
 
--- the letters R, H, A, L, M, D and S
+-- the letters R, H, A, L, M, D, S and B
 abbrev pub letter : Line → ℕ
 letter (rate k x) = 82
 letter (holiday k x) = 72
@@ -28,6 +29,7 @@ letter (limits c k x y) = 76
 letter (margin c k x y) = 77
 letter (deposit c k x) = 68
 letter (settlement c k x) = 83
+letter (callback c k x) = 66
 
 abbrev pub fields : Line → List (List ℕ)
 fields (rate k x) = k ∷ signed_decimal x ∷ []
@@ -37,6 +39,7 @@ fields (limits c k x y) = c ∷ k ∷ signed_decimal x ∷ signed_decimal y ∷ 
 fields (margin c k x y) = c ∷ k ∷ signed_decimal x ∷ signed_decimal y ∷ []
 fields (deposit c k x) = c ∷ k ∷ signed_decimal x ∷ []
 fields (settlement c k x) = c ∷ k ∷ signed_decimal x ∷ []
+fields (callback c k x) = c ∷ k ∷ signed_decimal x ∷ []
 
 -- a tab before each field, and the line feed at the end
 abbrev pub ended : List (List ℕ) → List ℕ
@@ -58,6 +61,7 @@ Good (limits c k x y) = Word c × Word k × Short x × Short y
 Good (margin c k x y) = Word c × Word k × Short x × Short y
 Good (deposit c k x) = Word c × Word k × Short x
 Good (settlement c k x) = Word c × Word k × Short x
+Good (callback c k x) = Word c × Word k × Short x
 
 -- these bytes are the form of that line: at most 128 before the line feed
 pub record Form (bytes : List ℕ) (l : Line) : Type 0 where
@@ -120,7 +124,8 @@ fielded l t =
     (cond (l == 76) (of_text_text_number_number limits t)
     (cond (l == 77) (of_text_text_number_number margin t)
     (cond (l == 68) (of_text_text_number deposit t)
-    (cond (l == 83) (of_text_text_number settlement t) None))))))
+    (cond (l == 83) (of_text_text_number settlement t)
+    (cond (l == 66) (of_text_text_number callback t) None)))))))
 
 abbrev pub lettered : List ℕ → Option Line
 lettered [] = None

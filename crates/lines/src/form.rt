@@ -115,6 +115,11 @@ fn field_line(letter: u8, fields: &[u8]) -> Option<Order<'_>>
             currency,
             amount,
         }),
+        b'B' => text_text_number(fields).map(|(code, currency, amount)| Order::Callback {
+            code,
+            currency,
+            amount,
+        }),
         _ => None,
     }
 }

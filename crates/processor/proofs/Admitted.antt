@@ -8,11 +8,11 @@ use Rattle.account.specs.Priorities.{priority_of}
 use Rattle.account.specs.Terms.{level_of, setting_of}
 use Rattle.request.specs.Causes.{first_told, is_none, outside}
 use Rattle.valuation.specs.Valuations.{Valuation}
-use Rattle.history.specs.Bookings.{is_held, opening_refusal, account_faults, limits_faults, margin_faults, deposit_faults, settlement_faults}
+use Rattle.history.specs.Bookings.{is_held, opening_refusal, account_faults, limits_faults, margin_faults, deposit_faults, settlement_faults, callback_faults}
 use Rattle.history.specs.States.{State, is_running}
 use Rattle.history.specs.Steps.{refused}
 use Rattle.history.proofs.Tests.{none_told}
-use Rattle.lines.specs.Lines.{Line, rate, holiday, opening, limits, margin, deposit, settlement, parsed}
+use Rattle.lines.specs.Lines.{Line, rate, holiday, opening, limits, margin, deposit, settlement, callback, parsed}
 use Rattle.records.specs.declared.record.Record.{Record}
 use Rattle.records.specs.Admissions.{admission, Admits}
 use Rattle.records.specs.Records.{name_faults, range_faults, opening_faults, barred_for}
@@ -56,6 +56,7 @@ not-barred v s (limits c k x y) e = account-not-barred s c k (limits_faults c k 
 not-barred v s (margin c k x y) e = account-not-barred s c k (margin_faults c k x y) (margin_faults c k x y) (λ h. h) e
 not-barred v s (deposit c k x) e = account-not-barred s c k (deposit_faults s c k x) (range_faults payment_range c k x) (first_alone (outside payment_range x) _ _) e
 not-barred v s (settlement c k x) e = account-not-barred s c k (settlement_faults s c k x) (range_faults settlement_range c k x) (first_alone (outside settlement_range x) _ _) e
+not-barred v s (callback c k x) e = account-not-barred s c k (callback_faults v s c k x) (range_faults payment_range c k x) (first_alone (outside payment_range x) _ _) e
 
 admitted : (v : Valuation) (s : State) (line : List ℕ) (o : Option Line) → parsed line ≡ o → answer_to v s o ≡ None → (r : Record) × (admission line ≡ Some r)
 admitted v s line None is e = let z : ◌≡◌ {A = ℕ} 0 1 = cc in absurd (omega arith)

@@ -3,14 +3,14 @@ use Rattle.std.specs.Prelude.{ℕ, List, [], Some, None, Ok, Err, Option, Result
 use Rattle.money.specs.Refusals.{Told}
 use Rattle.text.specs.Rows.{rows}
 use Rattle.valuation.specs.Valuations.{Valuation}
-use Rattle.history.specs.Calls.{Call, set_rate, set_holiday, open_account, set_limits, set_margin, deposit as deposit_cash, settle}
+use Rattle.history.specs.Calls.{Call, set_rate, set_holiday, open_account, set_limits, set_margin, deposit as deposit_cash, settle, call_back}
 use Rattle.history.specs.Steps.{refused, step}
 use Rattle.history.specs.States.{State, new_state}
 use Rattle.lines.specs.declared.fault.SheetFault.{SheetFault}
 use Rattle.records.specs.declared.record.Record.{Record}
 use Rattle.records.specs.Admissions.{Admits}
 use Rattle.lines.specs.Faults.{no_form}
-use Rattle.lines.specs.Lines.{Line, rate, holiday, opening, limits, margin, deposit, settlement, parsed}
+use Rattle.lines.specs.Lines.{Line, rate, holiday, opening, limits, margin, deposit, settlement, callback, parsed}
 use Rattle.processor.specs.Prints.{shown_refusal}
 use Rattle.processor.specs.Sheets.{sheet_of, printed_by}
 
@@ -23,6 +23,7 @@ call_of (limits c k x y) = set_limits c k x y
 call_of (margin c k x y) = set_margin c k x y
 call_of (deposit c k x) = deposit_cash c k x
 call_of (settlement c k x) = settle c k x
+call_of (callback c k x) = call_back c k x
 
 abbrev pub answer_to : Valuation → State → Option Line → Option Told
 answer_to v s None = Some no_form

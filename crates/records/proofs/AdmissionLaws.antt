@@ -23,9 +23,9 @@ use Rattle.text.proofs.Spellings.{before-some, if-then}
 use Rattle.lines.specs.declared.fault.SheetFault.{SheetFault}
 use Rattle.records.specs.declared.record.Record.{Record}
 use Rattle.records.specs.declared.record.Opening.{Opening as OfOpening}
-use Rattle.records.specs.declared.record.Record.TheVariants.{Rate, Holiday, Opening, Limits, Margin, Deposit, Settlement}
+use Rattle.records.specs.declared.record.Record.TheVariants.{Rate, Holiday, Opening, Limits, Margin, Deposit, Settlement, Callback}
 use Rattle.records.specs.Admissions.{admission, Admits, Exactly}
-use Rattle.lines.specs.Lines.{Line, rate, holiday, opening, limits, margin, deposit, settlement, ended, written, Form, parsed}
+use Rattle.lines.specs.Lines.{Line, rate, holiday, opening, limits, margin, deposit, settlement, callback, ended, written, Form, parsed}
 use Rattle.records.specs.Records.{line_of, well_formed, sound, of_account, record_of}
 use Rattle.records.proofs.FieldLaws.{Fielded, letters-word, code-word, order-word, figure-fielded, flag-fielded, level-fielded, setting-fielded, optimization-natural}
 use Rattle.lines.proofs.Forms.{form-says, form-reads}
@@ -109,6 +109,9 @@ record-says (deposit c k x) r e =
 record-says (settlement c k x) r e =
     let a = account-says _ c k (within settlement_range x) r e in
     subst (λ s. (sound s ≡ true) × (line_of s ≡ settlement c k x)) a.is (and_from _ _ a.formed a.passed, (λ i. settlement (a.first i) (a.second i) x))
+record-says (callback c k x) r e =
+    let a = account-says _ c k (within payment_range x) r e in
+    subst (λ s. (sound s ≡ true) × (line_of s ≡ callback c k x)) a.is (and_from _ _ a.formed a.passed, (λ i. callback (a.first i) (a.second i) x))
 
 -- A RECORD, THEN ITS LINE
 
@@ -129,6 +132,7 @@ record-reads (Limits code c x y) s = account-reads (λ code c. Limits code c x y
 record-reads (Margin code c x y) s = account-reads (λ code c. Margin code c x y) code c (are_figures x y) s
 record-reads (Deposit code c x) s = account-reads (λ code c. Deposit code c x) code c (within payment_range x) s
 record-reads (Settlement code c x) s = account-reads (λ code c. Settlement code c x) code c (within settlement_range x) s
+record-reads (Callback code c x) s = account-reads (λ code c. Callback code c x) code c (within payment_range x) s
 
 -- THE FORM OF ITS LINE
 
@@ -198,6 +202,10 @@ sound-form (Settlement code c x) s =
     let p = and_parts (well_formed code) (within settlement_range x) s in
     let f = settlement-fielded x p.1 in
     record { good = (code-word code p.0, letters-word c, f.0); long = amount-short 83 _ _ x (code-eight code p.0) (letters-three c) f; text = refl }
+sound-form (Callback code c x) s =
+    let p = and_parts (well_formed code) (within payment_range x) s in
+    let f = payment-fielded x p.1 in
+    record { good = (code-word code p.0, letters-word c, f.0); long = amount-short 66 _ _ x (code-eight code p.0) (letters-three c) f; text = refl }
 
 -- THE WHOLE WAY
 

@@ -21,9 +21,9 @@ use Rattle.request.specs.Causes.{first_told, is_none, outside, tells_of}
 use Rattle.request.specs.Openings.{opens, terms_of}
 use Rattle.history.specs.Bookings.{limits_faults, margin_faults}
 use Rattle.history.proofs.Tests.{none_told, is-there, is_within, not-not}
-use Rattle.lines.specs.Lines.{Line, rate, holiday, opening, limits, margin, deposit, settlement}
+use Rattle.lines.specs.Lines.{Line, rate, holiday, opening, limits, margin, deposit, settlement, callback}
 use Rattle.records.specs.declared.record.Record.{Record}
-use Rattle.records.specs.declared.record.Record.TheVariants.{Rate, Holiday, Opening, Limits, Margin, Deposit, Settlement}
+use Rattle.records.specs.declared.record.Record.TheVariants.{Rate, Holiday, Opening, Limits, Margin, Deposit, Settlement, Callback}
 use Rattle.records.specs.Records.{name_faults, range_faults, barred_for, of_account, opened_by, of_opening, record_of}
 use Rattle.records.proofs.FieldLaws.{not_both}
 
@@ -95,3 +95,4 @@ has-record (limits c k x y) e = account-record (λ c k. Limits c k x y) c k (are
 has-record (margin c k x y) e = account-record (λ c k. Margin c k x y) c k (are_figures x y) (margin_faults c k x y) (both-inside x y (tells_of c k (Account OutOfRange))) e
 has-record (deposit c k x) e = account-record (λ c k. Deposit c k x) c k (within payment_range x) (range_faults payment_range c k x) (inside payment_range x (tells_of c k (Account OutOfRange))) e
 has-record (settlement c k x) e = account-record (λ c k. Settlement c k x) c k (within settlement_range x) (range_faults settlement_range c k x) (inside settlement_range x (tells_of c k (Account OutOfRange))) e
+has-record (callback c k x) e = account-record (λ c k. Callback c k x) c k (within payment_range x) (range_faults payment_range c k x) (inside payment_range x (tells_of c k (Account OutOfRange))) e

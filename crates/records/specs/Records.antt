@@ -22,8 +22,8 @@ use Rattle.request.specs.Openings.{Opened, terms_faults, terms_of}
 use Rattle.history.specs.Bookings.{rate_faults, holiday_faults, limits_faults, margin_faults}
 use Rattle.records.specs.declared.record.Record.{Record}
 use Rattle.records.specs.declared.record.Opening.{Opening as OfOpening}
-use Rattle.records.specs.declared.record.Record.TheVariants.{Rate, Holiday, Opening, Limits, Margin, Deposit, Settlement}
-use Rattle.lines.specs.Lines.{Line, rate, holiday, opening, limits, margin, deposit, settlement}
+use Rattle.records.specs.declared.record.Record.TheVariants.{Rate, Holiday, Opening, Limits, Margin, Deposit, Settlement, Callback}
+use Rattle.lines.specs.Lines.{Line, rate, holiday, opening, limits, margin, deposit, settlement, callback}
 
 -- the line that a record stands for: a code is written by its characters, a priority by the letters of its currencies
 abbrev pub line_of : Record → Line
@@ -34,6 +34,7 @@ line_of (Limits code c x y) = limits (shown_code code) (letters c) x y
 line_of (Margin code c x y) = margin (shown_code code) (letters c) x y
 line_of (Deposit code c x) = deposit (shown_code code) (letters c) x
 line_of (Settlement code c x) = settlement (shown_code code) (letters c) x
+line_of (Callback code c x) = callback (shown_code code) (letters c) x
 
 abbrev pub well_formed : Code → Bool
 well_formed code = formed (bytes_of code)
@@ -47,6 +48,7 @@ sound (Limits code c x y) = well_formed code && are_figures x y
 sound (Margin code c x y) = well_formed code && are_figures x y
 sound (Deposit code c x) = well_formed code && within payment_range x
 sound (Settlement code c x) = well_formed code && within settlement_range x
+sound (Callback code c x) = well_formed code && within payment_range x
 
 -- WHAT BARS A LINE
 
@@ -72,6 +74,7 @@ barred_for (limits c k x y) = first_told (name_faults c k (limits_faults c k x y
 barred_for (margin c k x y) = first_told (name_faults c k (margin_faults c k x y))
 barred_for (deposit c k x) = first_told (name_faults c k (range_faults payment_range c k x))
 barred_for (settlement c k x) = first_told (name_faults c k (range_faults settlement_range c k x))
+barred_for (callback c k x) = first_told (name_faults c k (range_faults payment_range c k x))
 
 -- the code and the currency that a line names, or the fault
 abbrev pub names_by : Option Code → Option Currency → Result (Code × Currency) BookFault
@@ -103,3 +106,4 @@ record_of (limits c k x y) = of_account (λ c k. Limits c k x y) c k (are_figure
 record_of (margin c k x y) = of_account (λ c k. Margin c k x y) c k (are_figures x y)
 record_of (deposit c k x) = of_account (λ c k. Deposit c k x) c k (within payment_range x)
 record_of (settlement c k x) = of_account (λ c k. Settlement c k x) c k (within settlement_range x)
+record_of (callback c k x) = of_account (λ c k. Callback c k x) c k (within payment_range x)

@@ -1,7 +1,7 @@
 //! Which lines are admitted, and what they say.
 ghost use Rattle.std.specs.Prelude.{◌≡◌};
 ghost use Rattle.lines.specs.Faults.{told};
-ghost use Rattle.lines.specs.Lines.{rate as rate_line, holiday as holiday_line, limits as limits_line, margin as margin_line, deposit as deposit_line, settlement as settlement_line};
+ghost use Rattle.lines.specs.Lines.{rate as rate_line, holiday as holiday_line, limits as limits_line, margin as margin_line, deposit as deposit_line, settlement as settlement_line, callback as callback_line};
 ghost use Rattle.money.specs.Codes.{code_of};
 ghost use Rattle.money.specs.Currencies.{currency_of};
 ghost use Rattle.money.specs.Refusals.{refusal_of};
@@ -132,6 +132,19 @@ fn settlement_record(code: &[u8], currency: &[u8], amount: i64) -> Result<Record
     })
 }
 
+fn callback_record(code: &[u8], currency: &[u8], amount: i64) -> Result<Record, BookFault>
+    ensures answer { refusal_of told_by_book result ≡ barred_for (callback_line code.now currency.now amount) }
+    ensures value { result_ok result ≡ record_of (callback_line code.now currency.now amount) }
+{
+    let (code, currency) = names(code, currency)?;
+    check(PAYMENT, amount, Some(code), currency)?;
+    Ok(Record::Callback {
+        code,
+        currency,
+        amount,
+    })
+}
+
 /// The record of an order, or the first fault that its own fields have, whatever book it meets.
 impl TryFrom<Order<'_>> for Record {
     type Error = BookFault;
@@ -165,6 +178,11 @@ impl TryFrom<Order<'_>> for Record {
                 currency,
                 amount,
             } => settlement_record(code, currency, amount),
+            Order::Callback {
+                code,
+                currency,
+                amount,
+            } => callback_record(code, currency, amount),
         }
     }
 }

@@ -62,6 +62,11 @@ pub enum Record {
         currency: Currency,
         amount: i64,
     },
+    Callback {
+        code: Code,
+        currency: Currency,
+        amount: i64,
+    },
 }
 
 // The letter, a currency and a figure.
@@ -156,6 +161,11 @@ impl fmt::Display for Record {
                 currency,
                 amount,
             } => write_amount(f, "S", code, currency, amount),
+            Record::Callback {
+                code,
+                currency,
+                amount,
+            } => write_amount(f, "B", code, currency, amount),
         }
     }
 }

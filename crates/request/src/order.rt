@@ -47,4 +47,9 @@ pub enum Order<'a> {
         currency: &'a [u8],
         amount: i64,
     },
+    Callback {
+        code: &'a [u8],
+        currency: &'a [u8],
+        amount: i64,
+    },
 }

@@ -55,6 +55,11 @@ impl<V: Valuation> Book<V> {
                 currency,
                 amount,
             } => self.settle(code, currency, amount),
+            Order::Callback {
+                code,
+                currency,
+                amount,
+            } => self.call_back(code, currency, amount),
         }
     }
 }
