@@ -13,9 +13,9 @@ use Rattle.book.specs.Standings.{where_rated}
 abbrev pub lack : Option Code → Option Currency → Option Told
 lack code missing = first_told ((is_some missing, tells (Book RateMissing) code missing) ∷ [])
 
-pub quoted : (code : Option Code) (missing : Option Currency) (m r : Market) → Ok r ≡ unless_missing missing m → (None ≡ lack code missing) × (r ≡ m)
-quoted code None m r e = (refl, cc)
-quoted code (Some c) m r e = let z : ◌≡◌ {A = ℕ} 0 1 = cc in absurd (omega arith)
+pub quoted : (missing : Option Currency) (m r : Market) → Ok r ≡ unless_missing missing m → r ≡ m
+quoted None m r e = cc
+quoted (Some c) m r e = let z : ◌≡◌ {A = ℕ} 0 1 = cc in absurd (omega arith)
 
 -- where a rate is lacking nothing is answered, and where none is, something is
 pub not-rated : {X : Type 0} (code : Option Code) (missing : Option Currency) (t : Told) (answer : Option X) → Some t ≡ lack code missing → where_rated missing answer ≡ None

@@ -2,8 +2,6 @@
 use Rattle.std.proofs.Common.{◌≡◌, ℕ, Bool, true, false, cond, not, List, [], ◌∷◌, ◌++◌, ℤ, nat_abs, IfOk, Some, None, Err, Option, Result, sym, refl, ap, ◌∙◌, subst, arith}
 use Rattle.money.specs.declared.code.Code.{Code}
 use Rattle.money.specs.declared.currency.Currency.{Currency}
-use Rattle.money.specs.Codes.{code_of}
-use Rattle.money.specs.Currencies.{currency_of}
 use Rattle.money.specs.Options.{before}
 use Rattle.money.specs.Ranges.{within, optimization_range}
 use Rattle.money.specs.Refusals.{Told, refusal_of}
@@ -14,17 +12,11 @@ use Rattle.account.specs.Terms.{level_of, setting_of}
 use Rattle.request.specs.declared.fault.BookFault.{BookFault}
 use Rattle.request.specs.Causes.{first_told}
 use Rattle.request.specs.Faults.{told}
-use Rattle.request.specs.declared.subject.Subject.{Subject}
-use Rattle.request.specs.Subjects.{subject_of}
 use Rattle.request.specs.Openings.{Opened, opens, terms_faults, terms_of}
 use Rattle.valuation.specs.Valuations.{Valuation}
-use Rattle.history.specs.Bookings.{admits_base, opened, with_opened, is_full}
+use Rattle.history.specs.Bookings.{admits_base, is_full}
 use Rattle.history.specs.States.{State}
-use Rattle.history.specs.Steps.{refused, changed, unless, step}
-use Rattle.history.proofs.Named.{or_same-some}
 use Rattle.history.proofs.Tests.{none_told}
-use Rattle.request.specs.declared.order.Opening.{Opening}
-use Rattle.book.specs.Orders.{opening_call}
 use Rattle.book.specs.Openings.{code_faults, room_faults, opening_faults, IsFree, Opens}
 
 -- of two lists of tests the first is told, and else the second
@@ -116,32 +108,6 @@ module _ (v : Valuation) (s : State) (code : Option Code) (number : ℤ) (base :
         room = left.0;
       })
 
--- and the book that it leads to
-pub becomes : (s : State) (code : List ℕ) (number : ℤ) (base : List ℕ) (level setting : ℤ) (priority : List ℕ) (a : AccountState) → Opens s (code_of code) number (currency_of base) level setting priority a → opened s code number base level setting priority ≡ with_opened s a
-becomes s code number base level setting priority a o =
-    or_same-some s (code_of code) _ a.code o.is_code ∙ or_same-some s (currency_of base) _ a.base o.is_base ∙ or_same-some s (level_of level) _ a.level o.is_level
-    ∙ or_same-some s (setting_of setting) _ a.setting o.is_setting ∙ or_same-some s (priority_of priority) _ a.priority o.is_priority
-    ∙ ap (λ n. with_opened s (new_account a.code n a.base a.level a.setting a.priority)) o.is_number ∙ ap (with_opened s) (sym o.is_new)
-
 -- an answer that is a fault
 pub faulty : {X : Type 0} (r : Result X BookFault) (f : BookFault) (o : Option Told) (P : X → Type 0) → r ≡ Err f → Some (told f) ≡ o → (refusal_of told r ≡ o) × IfOk r P
 faulty r f o P is e = (ap (refusal_of told) is ∙ e, subst (λ r. IfOk r P) (sym is) tt)
-
--- an opening by the subject that its texts name
-module _ (v : Valuation) (s : State) (o : Opening) (subject : Subject) (named : subject ≡ subject_of o.code.now o.base.now) where
-  abbrev tests : Subject → Option Told
-  tests sub = first_told (opening_faults v s sub.code o.number sub.currency o.level o.setting o.priority.now)
-
-  same : tests subject ≡ refused v s (opening_call o)
-  same = ap tests named
-
-  pub opening-stopped : (f : BookFault) (r : Result Unit BookFault) → r ≡ Err f → Some (told f) ≡ tests subject → (refusal_of told r ≡ refused v s (opening_call o)) × (s ≡ step v s (opening_call o))
-  opening-stopped f r is e =
-      let refusal : Some (told f) ≡ refused v s (opening_call o) = e ∙ same in
-      (ap (refusal_of told) is ∙ refusal, ap (λ t. unless t s (changed v s (opening_call o))) refusal)
-
-  pub opening-done : (a : AccountState) (t : State) → None ≡ tests subject → Opens s subject.code o.number subject.currency o.level o.setting o.priority.now a → t ≡ with_opened s a → (None ≡ refused v s (opening_call o)) × (t ≡ step v s (opening_call o))
-  opening-done a t e is after =
-      let refusal : None ≡ refused v s (opening_call o) = e ∙ same in
-      let opens = subst (λ (sub : Subject). Opens s sub.code o.number sub.currency o.level o.setting o.priority.now a) named is in
-      (refusal, after ∙ sym (becomes s o.code.now o.number o.base.now o.level o.setting o.priority.now a opens) ∙ ap (λ t. unless t s (changed v s (opening_call o))) refusal)

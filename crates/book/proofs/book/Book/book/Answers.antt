@@ -1,8 +1,6 @@
-use Rattle.std.proofs.Common.{Err, vec_items, sym, refl, ap, ◌∙◌, arith}
-use Rattle.std.proofs.Math.ListN.{length-map}
+use Rattle.std.proofs.Common.{Err, sym, refl, ap, ◌∙◌}
 use Rattle.std.proofs.lemmas.Result.{err_from_is_err_and}
 use Rattle.money.specs.Refusals.{refusal_of}
-use Rattle.account.specs.Answers.{state_of}
 use Rattle.account.specs.Faults.{told as told_by_account}
 use Rattle.request.specs.Faults.{told}
 use Rattle.book.specs.Books.{meaning}
@@ -14,10 +12,6 @@ returns-in_err-at g c =
     let p = err_from_is_err_and c.from_residual.result c.from_residual.ensures.1 in
     let d = booking-stopped (meaning c.args.self.now) c.args.code.now c.args.currency.now c.args.booking c.in_err-at.field-0.0 c.in_err-at.ensures.answer in
     record { answer = ap (refusal_of told) (p.1 ∙ ap Err p.2) ∙ d.0; after = d.1; valued = refl }
-
-pub book_at-requires : goal.book_at-requires
-book_at-requires g c =
-    omega (arith, c.in_ok-at.ensures.place.held.lies.within, length-map (vec_items c.args.self.now.accounts.rows) state_of, c.args.self.now.accounts.rows.ok.0)
 
 pub returns-in_err-book_at : goal.returns-in_err-book_at
 returns-in_err-book_at g c =

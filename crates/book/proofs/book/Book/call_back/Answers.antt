@@ -1,4 +1,4 @@
-use Rattle.std.proofs.Common.{Err, sym, refl, ap, ◌∙◌, subst, arith, w64, SFits, rules}
+use Rattle.std.proofs.Common.{Err, sym, refl, ap, ◌∙◌, subst, w64, SFits, rules}
 use Rattle.std.proofs.lemmas.Result.{err_from_is_err_and}
 use Rattle.std.proofs.lemmas.Int.{to_z-of_z}
 use Rattle.money.specs.Refusals.{refusal_of}
@@ -8,7 +8,6 @@ use Rattle.history.specs.Bookings.{account_faults}
 use Rattle.book.specs.Books.{meaning}
 use Rattle.book.specs.Callbacks.{callback_checks, Grantable}
 use Rattle.book.proofs.CalledBack.{callback-stopped, callback-done}
-use Rattle.book.proofs.Rooms.{accounts-length, rows-length}
 use Rattle.book.proofs.book.Book.call_back.Goals as goal
 
 pub returns-in_err-granted : goal.returns-in_err-granted
@@ -20,10 +19,6 @@ returns-in_err-granted g c =
     let refusal = c.in_err-granted.ensures.answer ∙ ap (λ a. account_faults s c.args.code.now c.args.currency.now (callback_checks s c.args.code.now c.args.currency.now a)) (to_z-of_z w64 c.args.amount amount_fits) in
     let d = callback-stopped v s c.args.code.now c.args.currency.now c.args.amount (told c.in_err-granted.field-0.0) refusal in
     record { answer = ap (refusal_of told) (p.1 ∙ ap Err p.2) ∙ d.0; after = d.1; valued = refl }
-
-pub book_at-requires : goal.book_at-requires
-book_at-requires g c =
-    omega (arith, c.in_ok-granted.ensures.callback.located.held.lies.within, accounts-length c.args.self.now, rows-length c.args.self.now)
 
 pub returns-in_err-book_at : goal.returns-in_err-book_at
 returns-in_err-book_at g c =

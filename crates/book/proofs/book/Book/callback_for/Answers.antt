@@ -47,10 +47,6 @@ returns-in_err-market g c =
     let d = faulty c.from_residual-in_err-market.result c.in_err-market.field-0.0 _ (Grantable v s code currency c.args.amount) (p.1 ∙ ap Err p.2) e in
     record { answer = d.0; callback = d.1 }
 
-pub is_stopped-requires : goal.is_stopped-requires
-is_stopped-requires g c =
-    omega (arith, c.in_ok-at.ensures.place.held.lies.within, accounts-length c.args.self.now, rows-length c.args.self.now)
-
 pub returns-then-is_stopped : goal.returns-then-is_stopped
 returns-then-is_stopped g c =
     let s = meaning c.args.self.now in
@@ -64,10 +60,6 @@ returns-then-is_stopped g c =
     let stop = c.if-is_stopped.ensures place.held.lies.account ∙ ap (λ a. is_stopped s (Some a)) (place.held.lies.stands place.held.lies.account) in
     let e = is-stopped s code currency c.in_ok-at.at c.in_ok-at.currency place c.args.amount inside rated stop in
     record { answer = ap (λ f. Some (told f)) (c.fault.ensures ∙ ap (λ subject. fault_of subject Stopped) c.read-subject.ensures) ∙ e; callback = tt }
-
-pub index-requires : goal.index-requires
-index-requires g c =
-    omega (arith, c.in_ok-at.ensures.place.held.lies.within, accounts-length c.args.self.now, rows-length c.args.self.now)
 
 pub returns : goal.returns
 returns g c =

@@ -1,4 +1,4 @@
-use Rattle.std.proofs.Common.{◌≡◌, map, vec_items, sym, refl, ap, ◌∙◌, arith}
+use Rattle.std.proofs.Common.{◌≡◌, map, vec_items, sym, ap, ◌∙◌, arith}
 use Rattle.std.specs.List.{insert}
 use Rattle.money.specs.CodeOrders.{code_order}
 use Rattle.account.specs.Answers.{state_of}
@@ -7,17 +7,8 @@ use Rattle.history.specs.Bookings.{with_accounts}
 use Rattle.book.specs.Books.{meaning}
 use Rattle.book.specs.Rows.{codes_of}
 use Rattle.book.proofs.Inserted.{account-fits}
-use Rattle.book.proofs.Rooms.{rows-length, accounts-left}
+use Rattle.book.proofs.Rooms.{accounts-left}
 use Rattle.book.proofs.book.Book.insert_account.Goals as goal
-
-pub insert_within-requires-clause-room : goal.insert_within-requires-clause-room
-insert_within-requires-clause-room g c = omega (arith, accounts-left c.args.self.now c.requires.room, c.args.self.now.roomy)
-
-pub insert_within-requires-2-clause-place : goal.insert_within-requires-2-clause-place
-insert_within-requires-2-clause-place g c = omega (arith, c.insertion_point-at.ensures.within, c.as_slice.ensures.len, rows-length c.args.self.now)
-
-pub insert_within-requires-2-clause-room : goal.insert_within-requires-2-clause-room
-insert_within-requires-2-clause-room g c = omega (arith, accounts-left c.args.self.now c.requires.room, c.args.self.now.wide, rows-length c.args.self.now)
 
 pub invariant_of-self : goal.invariant_of-self
 invariant_of-self g c =
@@ -38,8 +29,8 @@ invariant_of-self g c =
       broad = b.broad;
     }
 
-pub returns : goal.returns
-returns g c =
+pub returns-clause-after : goal.returns-clause-after
+returns-clause-after g c =
     let b = c.args.self.now in
     let put = account-fits b c.args.account c.code-code.result c.as_slice.result.now c.insertion_point-at.result c.code-code.ensures c.as_slice.ensures.value c.insertion_point-at.ensures.within c.insertion_point-at.ensures.point c.requires.absent in
-    record { after = ap (λ accounts. with_accounts (meaning b) accounts (meaning b).optimizations) (ap (map state_of) c.insert_within-2.ensures.items ∙ put.lies); valued = refl }
+    ap (λ accounts. with_accounts (meaning b) accounts (meaning b).optimizations) (ap (map state_of) c.insert_within-2.ensures.items ∙ put.lies)

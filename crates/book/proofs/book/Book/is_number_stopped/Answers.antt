@@ -1,13 +1,8 @@
-use Rattle.std.proofs.Common.{T, vec_items, sym, subst, arith}
+use Rattle.std.proofs.Common.{T, vec_items, sym, subst}
 use Rattle.std.specs.Ordering.{nat_cmp}
 use Rattle.register.specs.Rows.{ascending}
-use Rattle.book.proofs.Rooms.{optimizations-length}
 use Rattle.book.proofs.Stopped.{placed-stopped, unplaced-stopped}
 use Rattle.book.proofs.book.Book.is_number_stopped.Goals as goal
-
-pub index-requires : goal.index-requires
-index-requires g c =
-    omega (arith, c.in-Some.ensures.within, c.as_slice.ensures.len, optimizations-length c.args.self.now, c.args.self.now.optimizations.ok.0)
 
 pub returns-in-Some : goal.returns-in-Some
 returns-in-Some g c =

@@ -4,8 +4,7 @@ use Rattle.book.specs.Books.{meaning}
 use Rattle.book.proofs.Marketed.{quoted}
 use Rattle.book.proofs.book.Book.market_for.Goals as goal
 
-pub returns-in-Ok : goal.returns-in-Ok
-returns-in-Ok g c =
+pub returns-in-Ok-clause-market : goal.returns-in-Ok-clause-market
+returns-in-Ok-clause-market g c =
     let s = meaning c.args.self.now in
-    let p = quoted c.args.subject.code (missing_rate s) (market_of s) (market_in c.in-Ok.market) c.in-Ok.ensures in
-    record { answer = p.0; market = p.1 }
+    quoted (missing_rate s) (market_of s) (market_in c.in-Ok.market) c.in-Ok.ensures

@@ -34,9 +34,6 @@ returns-in_err-market g c =
     let d = asked-refused s code None (missing_fault s code ∷ []) (λ a. where_rated (missing_rate s) (Some (standing v (market_of s) a))) c.in_ok-at.at held c.in_err-market.field-0.0 c.from_residual-in_err-market.result (p.1 ∙ ap Err p.2) e (λ a. not-rated code (missing_rate s) _ _ e) in
     record { answer = d.0; value = d.1 }
 
-pub index-requires : goal.index-requires
-index-requires g c = omega (arith, c.in_ok-at.ensures.place.lies.within, accounts-length c.args.self.now, rows-length c.args.self.now)
-
 pub returns : goal.returns
 returns g c =
     let v = g.V.Valuation.meaning in
