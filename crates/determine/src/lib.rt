@@ -10,5 +10,7 @@ mod points;
 mod position;
 pub mod quote;
 mod shares;
+#[cfg(test)]
+mod tests;
 mod walk;
 pub mod worth;
