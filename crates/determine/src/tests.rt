@@ -111,7 +111,7 @@ const LEVEL_2: Case = Case {
 };
 
 // Under the flat charge.
-const CASES: [Case; 10] = [
+const CASES: [Case; 12] = [
     REPAYMENT,
     CALL,
     LEVEL_2,
@@ -165,6 +165,30 @@ const CASES: [Case; 10] = [
         repayments: NONE,
         shares: NONE,
         ..REPAYMENT
+    },
+    // What is over is in a shut currency.
+    Case {
+        shut: Some(Currency::Eur),
+        repayments: NONE,
+        shares: NONE,
+        ..REPAYMENT
+    },
+    // At level 2, in the base, with 4,000 due to the participant: 5,500,000,000 less 1,100,000,000 points are short.
+    Case {
+        setting: DebitSetting::BaseCurrency,
+        shut: Some(Currency::Sek),
+        held: [
+            SHORT,
+            Held {
+                cash: 10_000,
+                settlement: -4_000,
+                ..NOTHING
+            },
+        ],
+        calls: [0, 0, 40_000, 0, 0, 0],
+        repayments: NONE,
+        shares: [0, 0, 36_000, 0, 0, 0],
+        ..LEVEL_2
     },
     // What is repaid leaves the excess.
     Case {
