@@ -286,11 +286,11 @@ fn norms_charge_no_deficiency(rt: HostRuntime) {
 
 #[test]
 fn cash_past_the_bound_is_refused(rt: HostRuntime) {
-    let Some(market) = market(None) else { return };
-    let Some(account) = account(PAST_BOUND) else {
-        return
-    };
-    let fault = determine(&FlatCharge, &market, &account).err();
+    let market = market(None);
+    let account = account(PAST_BOUND);
+    let fault = market
+        .zip(account)
+        .and_then(|(m, a)| determine(&FlatCharge, &m, &a).err());
     assert_eq!(rt; fault.map(|fault| fault.refusal().cause.number()), Some(15));
     assert!(rt; fault.and_then(|fault| fault.refusal().currency) == Some(Currency::Eur));
 }
