@@ -54,5 +54,8 @@ fn names_each_once(order: &[Currency; COUNT]) -> bool
 fn times(currency: Currency, order: &[Currency; COUNT]) -> usize
     ensures { result ≡ count_by (is_same currency) order.now }
 {
-    order.iter().filter(|other| currency == **other).count()
+    order
+        .iter()
+        .map(|other| usize::from(currency == *other))
+        .sum()
 }
