@@ -1,3 +1,4 @@
+mod Ranges
 mod Rated
 mod Values
 pub mod Listings

@@ -32,7 +32,10 @@ module _ (rates : List (Option ℤ)) (are : are_quotes rates ≡ true) where
       by None is later e = let z : ◌≡◌ {A = ℕ} 0 1 = cc in absurd (omega arith)
       by (Some rate) is later e = and_from _ _ is (later e)
 
-market-same : (rates : List (Option ℤ)) (statuses : List Status) → market_by (map (quote_in rates statuses) currencies) ≡ quoted_market rates statuses
+  pub rates-given : (statuses : List Status) → missing_in rates ≡ None → every is_rated (map (quote_in rates statuses) currencies) ≡ true
+  rates-given statuses none = all-given statuses currencies none
+
+pub market-same : (rates : List (Option ℤ)) (statuses : List Status) → market_by (map (quote_in rates statuses) currencies) ≡ quoted_market rates statuses
 market-same rates statuses =
     let same : (c : Currency) → quote_of (map (quote_in rates statuses) currencies) c ≡ quote_in rates statuses c = λ c. at_place (quote_in rates statuses) (record { rate = pos 0; status = Open }) c in
     λ i. record { rate = λ c. (same c i).rate; is_open = λ c. is_open_status (same c i).status }
@@ -40,4 +43,4 @@ market-same rates statuses =
 -- and so a market is made of rates of which none is missing
 pub market-made : (rates : List (Option ℤ)) → are_quotes rates ≡ true → (statuses : List Status) → missing_in rates ≡ None → market_answer (map (quote_in rates statuses) currencies) ≡ Some (quoted_market rates statuses)
 market-made rates are statuses none =
-    ap (λ b. cond b (Some (market_by (map (quote_in rates statuses) currencies))) None) (all-given rates are statuses currencies none) ∙ ap Some (market-same rates statuses)
+    ap (λ b. cond b (Some (market_by (map (quote_in rates statuses) currencies))) None) (rates-given rates are statuses none) ∙ ap Some (market-same rates statuses)

@@ -1,5 +1,5 @@
 -- What `cut_at` gives.
-use Rattle.std.proofs.Common.{◌≡◌, ℕ, suc, ◌<◌, Bool, true, false, cond, not, eqb, ltb, List, [], ◌∷◌, ◌++◌, length, get_or, take, drop, Some, None, Option, refl, ap, ◌∙◌, subst, arith, eq-eqb, ne_eqb, eqb-true, lt-ltb}
+use Rattle.std.proofs.Common.{◌≡◌, ℕ, zero, suc, ◌<◌, Bool, true, false, cond, not, eqb, ltb, List, [], ◌∷◌, ◌++◌, length, get_or, take, drop, Some, None, Option, refl, ap, ◌∙◌, subst, arith, eq-eqb, ne_eqb, eqb-true, lt-ltb}
 use Rattle.std.specs.List.{position, position_or_len}
 use Rattle.std.specs.Option.{option_map}
 use Prim.Native.Nat.compare
@@ -7,6 +7,11 @@ use Rattle.text.specs.Cuts.{onto, cut_at, Free}
 
 pub some_same : {X : Type 0} {x y : X} → Some x ≡ Some y → x ≡ y
 some_same e = cc
+
+pub drop-one : {X : Type 0} (i : ℕ) (xs : List X) → drop 1 (drop i xs) ≡ drop (suc i) xs
+drop-one zero xs = refl
+drop-one (suc i) [] = refl
+drop-one (suc i) (x ∷ xs) = drop-one i xs
 
 -- a text is cut at the place of the first mark
 pub cut_place : (m : ℕ) (xs : List ℕ) (o : Option ℕ) → position (λ b. eqb b m) xs ≡ o → cut_at m xs ≡ option_map (λ i. (take i xs, drop (suc i) xs)) o

@@ -1,16 +1,10 @@
-use Rattle.std.proofs.Common.{◌≡◌, true, sym, ◌∙◌, subst, arith, rules, w64}
-use Rattle.std.proofs.lemmas.Int.{ints, to_z-of_z}
-use Rattle.money.specs.declared.currency.Currency.{Currency}
-use Rattle.account.specs.declared.account.AccountState.{AccountState}
-use Rattle.account.specs.Accounts.{sound}
+use Rattle.std.proofs.Common.{◌≡◌, sym, ◌∙◌, subst, rules, w64}
+use Rattle.std.proofs.lemmas.Int.{to_z-of_z}
 use Rattle.account.specs.Answers.{state_of}
-use Rattle.account.proofs.SoundAccounts.{figures-ranged}
 use Rattle.valuation.specs.Laws.{InRange}
 use Rattle.determination.specs.Standings.{standing, standing_amount_in}
+use Rattle.determine.proofs.Ranges.{standing-in-range}
 use Rattle.determine.proofs.worth.standing.Goals as goal
-
-standing-in-range : (a : AccountState) → sound a ≡ true → (c : Currency) → InRange (standing_amount_in a c)
-standing-in-range a s c = let r = figures-ranged a s c in omega (arith, ints)
 
 pub worth-requires-clause-ranged : goal.worth-requires-clause-ranged
 worth-requires-clause-ranged g c =
